@@ -1,0 +1,46 @@
+-- `command::same_request` meets its contract: the tests of proposer and serial are the definition's, in its order.
+-- Assumes nothing.
+use mathlib.Core.Path.{sym}
+use Rattle.command.specs.Command.{sameRequest}
+use borrow.Author.Needs.{needs}
+use Rattle.command.proofs.same_request.Statement.{statement}
+use Rattle.command.proofs.same_request.Tie as tie
+
+proposer-requires : tie.Need-proposer-requires
+proposer-requires c κs = search needs
+
+proposer-requires-2 : tie.Need-proposer-requires-2
+proposer-requires-2 c κs = search needs
+
+serial-requires : tie.Need-serial-requires
+serial-requires c κs = search needs
+
+serial-requires-2 : tie.Need-serial-requires-2
+serial-requires-2 c κs = search needs
+
+returns : tie.Need-returns
+unfolding sameRequest
+returns c =
+    let proposers = c .before .before in
+    rw (
+      sym (proposers .before .before .proposer .ensures),
+      sym (proposers .before .proposer2 .ensures),
+      proposers .if1 .taken,
+      sym (c .before .serial .ensures),
+      sym (c .serial2 .ensures),
+    )
+
+returns-2 : tie.Need-returns-2
+unfolding sameRequest
+returns-2 c = rw (sym (c .before .before .proposer .ensures), sym (c .before .proposer2 .ensures), c .if1 .left)
+
+pub same-request-spec : {M : Type 1} → statement M
+same-request-spec =
+    tie.close
+    (tie.spec
+    proposer-requires
+    proposer-requires-2
+    serial-requires
+    serial-requires-2
+    returns
+    returns-2)

@@ -1,0 +1,120 @@
+-- One turn of the loops that move commands, and what they leave at their end.
+use mathlib.Core.Path.{_≡_, refl, sym, ap, ap₂, _∙_, subst}
+use mathlib.Core.Bool.{Bool, true, false, _&&_}
+use mathlib.Core.List.{List, [], _∷_, _++_, append-nil, append-assoc}
+use Prim.Native.Nat.{ℕ, zero, suc, _+_, _-_, _≤_, _<_}
+use native.Mathlib.Omega.{arith}
+use native.Mathlib.Numerals.{add-one}
+use lib.ListN.{length, take, drop, getD, drop-of-length-le, length-drop, take-append-drop}
+use lib.Seq.{take-take, take-all, append-snoc, drop-drop, getD-drop}
+use Rattle.history.specs.History.{comesOff, without, extends}
+use Rattle.history.specs.Insertion.{place, insert, arrange}
+use Rattle.history.specs.Front.{rotated, fronted, offAt}
+use Rattle.history.specs.FrontLaws.{Standing, off-at-standing, off-at-absent}
+use Rattle.history.proofs.Scans.{drop-next}
+use Rattle.history.proofs.Moves.{moved, moved-take, moved-drop, moved-head, moved-rest, moved-length}
+
+-- ---- putting in order
+
+arrange-next : (m : List ℕ) (c : ℕ) (h : List ℕ) → arrange m (c ∷ h) ≡ arrange (insert c m) h
+unfolding arrange
+arrange-next m c h = refl
+
+inserted : (h : List ℕ) (i at : ℕ) → at ≤ i → at ≡ place (getD h i 0) (take i h)
+    → take at h ++ getD h i 0 ∷ drop at (take i h) ≡ insert (getD h i 0) (take i h)
+unfolding insert
+inserted h i at p e = rw (← e, take-take at i h p)
+
+-- what the loop keeps at position i: the first i commands, with the others inserted, are the answer m₀; the length is n₀
+pub record Arranging (h : List ℕ) (i n₀ : ℕ) (m₀ : List ℕ) : Type 0 where
+  pub inside : i ≤ length h
+  pub size : length h ≡ n₀
+  pub rest : arrange (take i h) (drop i h) ≡ m₀
+
+-- the command at i goes to its place among the first i
+pub arrange-turn : (h : List ℕ) (i at n₀ : ℕ) (m₀ ys : List ℕ) → Arranging h i n₀ m₀ → at ≤ i → i < length h → at ≡ place (getD h i 0) (take i h)
+    → ys ≡ rotated (take (i + 1 - at) (drop at h)) → Arranging (take at h ++ (ys ++ drop (i + 1 - at) (drop at h))) (i + 1) n₀ m₀
+arrange-turn h i at n₀ m₀ ys inv p q e f = subst (λ (l : List ℕ). Arranging (take at h ++ (l ++ drop (i + 1 - at) (drop at h))) (i + 1) n₀ m₀) (sym f) turned
+  where
+    turned : Arranging (moved h at i) (i + 1) n₀ m₀
+    turned =
+        record {
+          inside = omega (arith, moved-length h at i p q);
+          size = moved-length h at i p q ∙ inv .size;
+          rest =
+              ap₂ arrange (moved-take h at i p q ∙ inserted h i at p e) (moved-drop h at i p q)
+              ∙ sym (arrange-next (take i h) (getD h i 0) (drop (i + 1) h)) ∙ ap (arrange (take i h)) (sym (drop-next h i q)) ∙ inv .rest;
+        }
+
+pub arrange-end : (h : List ℕ) (i : ℕ) → length h ≤ i → arrange (take i h) (drop i h) ≡ h
+unfolding arrange
+arrange-end h i p = rw (drop-of-length-le h p) (take-all i h p)
+
+-- ---- bringing to the front
+
+-- what the loop keeps at position i: the first i commands of g stand in front, and the test and the result go on from there; e₀ and m₀ are the answers
+pub record Bringing (w g : List ℕ) (i n₀ : ℕ) (e₀ : Bool) (m₀ : List ℕ) : Type 0 where
+  pub inside : i ≤ length g
+  pub within : i ≤ length w
+  pub size : length w ≡ n₀
+  pub answer : extends (drop i w) (drop i g) ≡ e₀
+  pub rest : take i w ++ fronted (drop i w) (drop i g) ≡ m₀
+
+pub bring-start : (w g : List ℕ) → Bringing w g 0 (length w) (extends w g) (fronted w g)
+bring-start w g = record { inside = omega arith; within = omega arith; size = refl; answer = refl; rest = refl }
+
+pub bring-end : (w g : List ℕ) (i n₀ : ℕ) (e₀ : Bool) (m₀ : List ℕ) → Bringing w g i n₀ e₀ m₀ → length g ≤ i → (true ≡ e₀) × (w ≡ m₀)
+unfolding extends fronted
+bring-end w g i n₀ e₀ m₀ inv p =
+    (rw (drop-of-length-le g p) at (inv .answer), sym (take-append-drop i w) ∙ (rw (drop-of-length-le g p) at (inv .rest)))
+
+module _ (w g : List ℕ) (i n₀ : ℕ) (e₀ : Bool) (m₀ : List ℕ) (inv : Bringing w g i n₀ e₀ m₀) (p : i < length g) where
+  -- the command does not come off
+  pub bring-stop : length w ≤ i + offAt (getD g i 0) (drop i w) → (false ≡ e₀) × (w ≡ m₀)
+  unfolding extends fronted
+  bring-stop q =
+      let no-off : comesOff (getD g i 0) (drop i w) ≡ false = off-at-absent (getD g i 0) (drop i w) (rw length-drop (omega (arith, inv .within))) in
+      (rw (drop-next g i p, no-off) at (inv .answer), sym (take-append-drop i w) ∙ (rw (drop-next g i p, no-off) at (inv .rest)))
+
+  -- the command comes off, and goes to place i
+  module _ (at : ℕ) (e : at ≡ i + offAt (getD g i 0) (drop i w)) (q : at < length w) where
+    standing : Standing (getD g i 0) (drop i w) (offAt (getD g i 0) (drop i w))
+    standing = off-at-standing (getD g i 0) (drop i w) (rw length-drop (omega arith))
+
+    ordered : i ≤ at
+    ordered = omega arith
+
+    head-is : take (i + 1) (moved w i at) ≡ take i w ++ getD g i 0 ∷ []
+    head-is = moved-head w i at ordered q ∙ ap (λ (c : ℕ). take i w ++ c ∷ []) (rw e (sym (getD-drop i w _ 0) ∙ standing .found))
+
+    rest-is : drop (i + 1) (moved w i at) ≡ without (getD g i 0) (drop i w)
+    rest-is =
+        let j = offAt (getD g i 0) (drop i w) in
+        let front : at - i ≡ j = omega arith in
+        let back : at + 1 ≡ i + suc j = omega arith in
+        moved-rest w i at ordered q
+        ∙ ap₂ (λ (m n : ℕ). take m (drop i w) ++ drop n w) front back
+        ∙ ap (λ (l : List ℕ). take j (drop i w) ++ l) (sym (drop-drop (suc j) i w))
+        ∙ sym (standing .left)
+
+    -- the test and the result, one command on
+    answer-next : extends (without (getD g i 0) (drop i w)) (drop (i + 1) g) ≡ e₀
+    unfolding extends
+    answer-next = rw (drop-next g i p, standing .comes) at (inv .answer)
+
+    rest-next : take i w ++ getD g i 0 ∷ fronted (without (getD g i 0) (drop i w)) (drop (i + 1) g) ≡ m₀
+    unfolding fronted
+    rest-next = rw (drop-next g i p, standing .comes) at (inv .rest)
+
+    pub bring-turn : (ys : List ℕ) → ys ≡ rotated (take (at + 1 - i) (drop i w)) → Bringing (take i w ++ (ys ++ drop (at + 1 - i) (drop i w))) g (i + 1) n₀ e₀ m₀
+    bring-turn ys f = subst (λ (l : List ℕ). Bringing (take i w ++ (l ++ drop (at + 1 - i) (drop i w))) g (i + 1) n₀ e₀ m₀) (sym f) turned
+      where
+        turned : Bringing (moved w i at) g (i + 1) n₀ e₀ m₀
+        turned =
+            record {
+              inside = omega arith;
+              within = omega (arith, moved-length w i at ordered q);
+              size = moved-length w i at ordered q ∙ inv .size;
+              answer = rw rest-is answer-next;
+              rest = rw (head-is, rest-is, append-snoc) rest-next;
+            }

@@ -1,0 +1,13 @@
+pub mod History
+pub mod TakesLaws
+pub mod ExtensionLaws
+pub mod CoherenceLaws
+pub mod CanonicalLaws
+pub mod Insertion
+pub mod InsertionLaws
+pub mod OrderLaws
+pub mod ValidLaws
+pub mod Front
+pub mod FrontLaws
+pub mod Words
+pub mod WordsLaws

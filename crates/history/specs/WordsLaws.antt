@@ -1,0 +1,50 @@
+-- Laws of histories in arrays.
+use mathlib.Core.Path.{_≡_, refl, sym, ap, _∙_}
+use mathlib.Core.List.{List, [], _∷_}
+use Prim.Native.Nat.{ℕ, zero, suc, min, _≤_}
+use native.Mathlib.Omega.{arith}
+use mathlib.Core.Bool.{true}
+use borrow.Author.Tests.{le-leb, leb-true}
+use lib.Dec.{leb}
+use lib.ListN.{length, take, drop, length-take}
+use Rattle.history.specs.declared.History.{History}
+use Rattle.history.specs.History.{validHistory}
+use Rattle.history.specs.ExtensionLaws.{and-left, and-right}
+use Rattle.history.specs.Words.{limit, padded, commands, stored, validStored}
+
+pub length-padded : (n : ℕ) (l : List ℕ) → length (padded n l) ≡ n
+unfolding padded
+length-padded zero l = refl
+length-padded (suc n) l = ap suc (length-padded n (drop 1 l))
+
+-- a list that fits is there whole
+pub take-padded : (n : ℕ) (l : List ℕ) → length l ≤ n → take (length l) (padded n l) ≡ l
+unfolding padded
+take-padded n [] p = refl
+take-padded zero (c ∷ l) p = absurd (omega arith)
+take-padded (suc n) (c ∷ l) p = ap (λ (x : List ℕ). c ∷ x) (take-padded n l (omega arith))
+
+-- a list of at most 32 commands, stored by value, is there whole
+pub commands-stored : (l : List ℕ) → length l ≤ limit → commands (stored l) ≡ l
+commands-stored l p =
+    let whole : min (length l) limit ≡ length l = omega arith in
+    ap (λ (n : ℕ). take n (padded limit l)) whole ∙ take-padded limit l p
+
+pub stored-valid : (l : List ℕ) → length l ≤ limit → validHistory l ≡ true → validStored (stored l) ≡ true
+unfolding validStored
+stored-valid l p v =
+    let counted : leb (min (length l) limit) limit ≡ true = le-leb (min (length l) limit) limit (omega arith) in
+    rw (counted, commands-stored l p) v
+
+-- what `validStored` says
+pub valid-stored-count : (h : History) → validStored h ≡ true → h .count ≤ limit
+unfolding validStored
+valid-stored-count h e = leb-true (h .count) limit (and-left (leb (h .count) limit) _ e)
+
+pub valid-stored-history : (h : History) → validStored h ≡ true → validHistory (commands h) ≡ true
+unfolding validStored
+valid-stored-history h e = and-right (leb (h .count) limit) _ e
+
+-- a valid history by value has at most 32 commands
+pub valid-stored-length : (h : History) → validStored h ≡ true → length (commands h) ≤ limit
+valid-stored-length h e = rw length-take (omega (arith, valid-stored-count h e))

@@ -1,0 +1,243 @@
+// Histories: the test for a repeated proposer and serial, canonical order, and extension.
+ghost use mathlib.Core.Path.{_≡_};
+ghost use Prim.Native.Nat.{_≤_, _<_};
+ghost use lib.ListN.{length, take, drop, getD};
+ghost use Rattle.history.specs.History as spec;
+ghost use Rattle.history.specs.Insertion as insertion;
+ghost use Rattle.history.specs.Front as front;
+ghost use Rattle.history.specs.Words as words;
+
+// A history by value: the first `count` words. The words after them mean nothing.
+pub struct History {
+    pub count: u8,
+    pub words: [u64; 32],
+}
+
+// Whether some command of h has c's proposer and serial.
+pub fn present(c: u64, h: &[u64]) -> bool
+    ensures { λ r. ⌜ r ≡ spec.present c (now (h .entry)) ⌝ }
+{
+    let mut i: usize = 0;
+    while i < h.len() {
+        let same = command::same_request(c, h[i]);
+        if same {
+            return true;
+        }
+        i += 1;
+    }
+    false
+}
+
+// Whether two commands of h have one proposer and serial.
+pub fn repeated(h: &[u64]) -> bool
+    ensures { λ r. ⌜ r ≡ spec.repeated (now (h .entry)) ⌝ }
+{
+    let mut i: usize = 0;
+    while i < h.len() {
+        let again = present(h[i], &h[i + 1..]);
+        if again {
+            return true;
+        }
+        i += 1;
+    }
+    false
+}
+
+// Whether h is a valid history: valid commands, no proposer and serial twice, canonical order. This is what CONFIG asks besides the length;
+// a frame's history is tested by the three tests apart, since their refusals differ.
+pub fn valid(h: &[u64]) -> bool
+    ensures { λ r. ⌜ r ≡ spec.validHistory (now (h .entry)) ⌝ }
+{
+    let good = command::all_valid(h);
+    if !good {
+        return false;
+    }
+    let twice = repeated(h);
+    if twice {
+        return false;
+    }
+    is_canonical(h)
+}
+
+// The place of the command at n among those before it, found by walking left until one conflicts.
+fn place(h: &[u64], n: usize) -> usize
+    requires { ⌜ n < length (now h) ⌝ }
+    ensures { λ r. ⌜ (r ≤ n) × (r ≡ insertion.place (getD (now (h .entry)) n 0) (take n (now (h .entry)))) ⌝ }
+{
+    let c = h[n];
+    let mut at = n;
+    let mut k = n;
+    while 0 < k {
+        k -= 1;
+        let d = h[k];
+        let stop = command::conflict(c, d);
+        if stop {
+            return at;
+        }
+        if c < d {
+            at = k;
+        }
+    }
+    at
+}
+
+// Whether h is in canonical order. A command at least as large as all before it is in its place; of a smaller one the place is looked for.
+pub fn is_canonical(h: &[u64]) -> bool
+    ensures { λ r. ⌜ r ≡ spec.isCanonical (now (h .entry)) ⌝ }
+{
+    let mut largest: u64 = 0;
+    let mut next: usize = 0;
+    while next < h.len() {
+        let at = next;
+        next += 1;
+        let c = h[at];
+        if c < largest {
+            if place(h, at) != at {
+                return false;
+            }
+        } else {
+            largest = c;
+        }
+    }
+    true
+}
+
+// The last command of s goes before the others.
+fn rotate(s: &mut [u64])
+    ensures { λ r. ⌜ now (s .exit) ≡ front.rotated (now (s .entry)) ⌝ }
+{
+    let n = s.len();
+    if n == 0 {
+        return;
+    }
+    let mut carry = s[n - 1];
+    let mut k: usize = 0;
+    while k < n {
+        let d = s[k];
+        s[k] = carry;
+        carry = d;
+        k += 1;
+    }
+}
+
+// Puts h in canonical order.
+pub fn put_in_order(h: &mut [u64])
+    ensures { λ r. ⌜ now (h .exit) ≡ spec.canonical (now (h .entry)) ⌝ }
+{
+    let mut i: usize = 0;
+    while i < h.len() {
+        let at = place(h, i);
+        rotate(&mut h[at..i + 1]);
+        i += 1;
+    }
+}
+
+// Where c stands in h with no conflicting command before it; h's length where it does not.
+fn find(c: u64, h: &[u64]) -> usize
+    ensures { λ r. ⌜ r ≡ front.offAt c (now (h .entry)) ⌝ }
+{
+    let mut i: usize = 0;
+    while i < h.len() {
+        let d = h[i];
+        if c == d {
+            return i;
+        }
+        let blocked = command::conflict(c, d);
+        if blocked {
+            return h.len();
+        }
+        i += 1;
+    }
+    i
+}
+
+// Brings g's commands to the front of work, and says whether all of them came: whether work extends g.
+pub fn bring(work: &mut [u64], g: &[u64]) -> bool
+    ensures { λ r. ⌜ (r ≡ spec.extends (now (work .entry)) (now (g .entry))) × (now (work .exit) ≡ front.fronted (now (work .entry)) (now (g .entry))) ⌝ }
+{
+    let n = work.len();
+    let mut i: usize = 0;
+    while i < g.len() {
+        let at = i + find(g[i], &work[i..]);
+        if n <= at {
+            return false;
+        }
+        rotate(&mut work[i..at + 1]);
+        i += 1;
+    }
+    true
+}
+
+// The word at i, or 0 past the end.
+fn word(src: &[u64], i: usize) -> u64
+    ensures { λ r. ⌜ r ≡ getD (now (src .entry)) i 0 ⌝ }
+{
+    if i < src.len() { src[i] } else { 0 }
+}
+
+// Fills dst with the words of src, and with zeros where src has no more.
+pub fn fill(dst: &mut [u64], src: &[u64])
+    ensures { λ r. ⌜ now (dst .exit) ≡ words.padded (length (now (dst .entry))) (now (src .entry)) ⌝ }
+{
+    let mut i: usize = 0;
+    while i < dst.len() {
+        dst[i] = word(src, i);
+        i += 1;
+    }
+}
+
+// The most commands of an extension that is tested: a union of two histories of 32.
+pub const WORK: usize = 64;
+
+// Whether h extends g, of an h of at most 64 commands; a longer one extends nothing here.
+pub fn extends(h: &[u64], g: &[u64]) -> bool
+    ensures { λ r. ⌜ r ≡ words.extendsWithin 64 (now (h .entry)) (now (g .entry)) ⌝ }
+{
+    let n = h.len();
+    let fits = n <= WORK;
+    if !fits {
+        return false;
+    }
+    let mut work = [0u64; WORK];
+    fill(&mut work, h);
+    bring(&mut work[..n], g)
+}
+
+impl History {
+    // The most commands that a history holds.
+    pub const LIMIT: usize = 32;
+
+    // The first 32 commands of h, and zeros after them.
+    pub fn of(h: &[u64]) -> History
+        ensures { λ r. ⌜ r ≡ words.stored (now (h .entry)) ⌝ }
+    {
+        let mut w = [0u64; 32];
+        fill(&mut w, h);
+        let n = h.len();
+        if n < Self::LIMIT {
+            History {
+                count: n as u8,
+                words: w,
+            }
+        } else {
+            History {
+                count: 32,
+                words: w,
+            }
+        }
+    }
+
+    // Whether this history may be lent: at most 32 commands, and valid.
+    pub fn is_valid(self) -> bool
+        ensures { λ r. ⌜ r ≡ words.validStored self ⌝ }
+    {
+        let n = self.count as usize;
+        let fits = n <= Self::LIMIT;
+        if fits {
+            let w: &[u64] = &self.words;
+            valid(&w[..n])
+        } else {
+            false
+        }
+    }
+}

@@ -1,0 +1,5 @@
+pub mod Merge
+pub mod Merged
+pub mod MergeLaws
+pub mod MergedLaws
+pub mod CommonLaws

@@ -1,0 +1,116 @@
+// Merging two histories, and appending commands that are not there yet.
+ghost use mathlib.Core.Path.{_≡_};
+ghost use mathlib.Core.List.{_++_};
+ghost use Prim.Native.Nat.{min};
+ghost use lib.ListN.{length, drop};
+ghost use Rattle.history.specs.Words.{limit};
+ghost use Rattle.merge.specs.Merge as spec;
+ghost use Rattle.merge.specs.Merged as answer;
+use history::History;
+
+// What merging answers: that there is no common extension, that the merge is too long, or else the merge.
+pub struct Merged {
+    pub split: bool,
+    pub full: bool,
+    pub history: History,
+}
+
+// The smaller of two numbers.
+fn smaller(a: usize, b: usize) -> usize
+    ensures { λ r. ⌜ r ≡ min a b ⌝ }
+{
+    if a < b { a } else { b }
+}
+
+// Appends to the first count words of buf the commands of more whose proposer and serial are not there yet, up to the end of buf.
+// Answers how many words there are then; the words behind them stay. A count past the end of buf counts as its length. To know whether all
+// of them fit within 32 words, append in a buffer of 64.
+pub fn append(buf: &mut [u64], count: usize, more: &[u64]) -> usize
+    ensures { λ r. ⌜ (r ≡ length (spec.appendedIn (now (buf .entry)) count (now (more .entry)))) × (now (buf .exit) ≡ spec.appendedIn (now (buf .entry)) count (now (more .entry)) ++ drop r (now (buf .entry))) ⌝ }
+{
+    let mut n = smaller(count, buf.len());
+    let mut i: usize = 0;
+    while i < more.len() {
+        if buf.len() <= n {
+            return n;
+        }
+        let c = more[i];
+        i += 1;
+        let old = history::present(c, &buf[..n]);
+        if !old {
+            buf[n] = c;
+            n += 1;
+        }
+    }
+    n
+}
+
+impl Merged {
+    // No common extension exists.
+    fn split() -> Merged
+        ensures { λ r. ⌜ r ≡ answer.split ⌝ }
+    {
+        Merged {
+            split: true,
+            full: false,
+            history: History {
+                count: 0,
+                words: [0u64; 32],
+            },
+        }
+    }
+
+    // The merge is too long.
+    fn full() -> Merged
+        ensures { λ r. ⌜ r ≡ answer.full ⌝ }
+    {
+        Merged {
+            split: false,
+            full: true,
+            history: History {
+                count: 0,
+                words: [0u64; 32],
+            },
+        }
+    }
+}
+
+// The answer for a union `work` that is the merge if it extends h. Leaves `work` reordered.
+fn settle(work: &mut [u64], h: &[u64]) -> Merged
+    ensures { λ r. ⌜ r ≡ answer.answerOf limit (now (work .entry)) (now (h .entry)) ⌝ }
+{
+    let extends = history::bring(work, h);
+    if !extends {
+        return Merged::split();
+    }
+    let fits = work.len() <= History::LIMIT;
+    if !fits {
+        return Merged::full();
+    }
+    history::put_in_order(work);
+    Merged {
+        split: false,
+        full: false,
+        history: History::of(work),
+    }
+}
+
+// The merge of g and h: that there is none, that it is too long, or the merge. A g or h of over 32 commands is answered as too long. Where h
+// repeats a proposer and serial, so is no history, the answer may be that there is none though a common extension exists.
+pub fn merge(g: &[u64], h: &[u64]) -> Merged
+    ensures { λ r. ⌜ r ≡ answer.merged limit (now (g .entry)) (now (h .entry)) ⌝ }
+{
+    let short_g = g.len() <= History::LIMIT;
+    if !short_g {
+        return Merged::full();
+    }
+    let short_h = h.len() <= History::LIMIT;
+    if !short_h {
+        return Merged::full();
+    }
+    let mut work = [0u64; history::WORK];
+    history::fill(&mut work, g);
+    let m = g.len();
+    let n = append(&mut work, m, h);
+    settle(&mut work[..n], h)
+}

@@ -1,0 +1,63 @@
+-- Tables: one history a site, sixteen in all, in rows of 32 words. Row i is the 32 words from 32 * i on; its first words, as many as
+-- count i says, are the history, and the words after them mean nothing.
+use mathlib.Core.Bool.{Bool, cond, _&&_}
+use mathlib.Core.List.{List, [], _∷_, _++_}
+use Prim.Native.Nat.{ℕ, zero, suc, _+_, _*_}
+use lib.Dec.{leb, ltb, eqb}
+use lib.ListN.{length, take, drop, getD, set, replicate}
+use lib.Seq.{sets}
+use Rattle.roster.specs.Sites.{allTo}
+use Rattle.history.specs.History.{validHistory}
+use Rattle.history.specs.Words.{limit, padded}
+use Rattle.table.specs.declared.Table.{Table}
+
+-- "4 ≤ N ≤ 16": the most sites, one row for each
+abbrev pub sites : ℕ
+sites = 16
+
+-- whether there is a history i: it has a count, which is at most 32, and 32 words
+unfoldable pub inRange : List ℕ → List ℕ → ℕ → Bool
+inRange words counts i = ltb i (length counts) && (leb (limit * i + limit) (length words) && leb (getD counts i 0) limit)
+
+-- history i of the words and the counts; none where it is out of range
+unfoldable pub row : List ℕ → List ℕ → ℕ → List ℕ
+row words counts i = cond (inRange words counts i) (take (getD counts i 0) (drop (limit * i) words)) []
+
+-- history i of a table
+abbrev pub rowOf : Table → ℕ → List ℕ
+rowOf t i = row (t .words) (t .counts) i
+
+-- what f gives of the sites below n, in their order
+unfoldable pub listTo : ℕ → (ℕ → List ℕ) → List (List ℕ)
+listTo zero f = []
+listTo (suc n) f = listTo n f ++ (f n ∷ [])
+
+-- all histories of a table
+unfoldable pub rows : Table → List (List ℕ)
+rows t = listTo sites (rowOf t)
+
+-- the table with l in row i: the count is l's length, the words are l with zeros after it; all else stays
+abbrev pub withRow : Table → ℕ → List ℕ → Table
+withRow t i l = record { counts = set (t .counts) i (length l); words = sets (t .words) (limit * i) (padded limit l) }
+
+-- history l stored as row i; the table stays where there is no such row, or l is too long for one
+unfoldable pub storedAt : Table → ℕ → List ℕ → Table
+storedAt t i l = cond (ltb i sites && leb (length l) limit) (withRow t i l) t
+
+-- row i emptied: the empty history stored there
+unfoldable pub emptiedAt : Table → ℕ → Table
+emptiedAt t i = storedAt t i []
+
+-- all counts and words 0, as at the start of a ballot
+unfoldable pub emptyTable : Table
+emptyTable = record { counts = replicate sites 0; words = replicate (limit * sites) 0 }
+
+-- what CONFIG asks of row i of lent state, for N sites: no "count over 32", "a wrong command, a repeated proposer and serial in one
+-- list, a stored history not canonical", nor an "entry at N or above"
+unfoldable pub validRow : ℕ → List ℕ → List ℕ → ℕ → Bool
+validRow n words counts i =
+    leb (getD counts i 0) limit && cond (ltb i n) (validHistory (row words counts i)) (eqb (getD counts i 0) 0)
+
+-- and of a table: every row
+unfoldable pub validTable : ℕ → Table → Bool
+validTable n t = allTo sites (validRow n (t .words) (t .counts))

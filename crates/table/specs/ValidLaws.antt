@@ -1,0 +1,136 @@
+-- Laws of valid tables: what validity says of each row, and that stores of valid histories keep it.
+use mathlib.Core.Path.{_≡_, refl, sym, ap, _∙_, subst}
+use mathlib.Core.Logic.{_⊎_, ⊎-elim}
+use mathlib.Core.Bool.{true, cond}
+use mathlib.Core.List.{List, []}
+use Prim.Native.Nat.{ℕ, _≤_, _<_}
+use native.Mathlib.Decide.{ℕ-discrete}
+use native.Mathlib.Omega.{arith}
+use borrow.Author.Tests.{leb-true, lt-ltb, le-ltb, le-leb, eqb-true, eq-eqb}
+use lib.Dec.{leb, ltb, eqb}
+use lib.ListN.{length, getD, length-set, List·getD-eq-default}
+use lib.Seq.{length-sets, getD-set-other}
+use Rattle.roster.specs.SitesLaws.{and-left, and-right, all-each, each-all, lt-or-le}
+use Rattle.history.specs.History.{validHistory}
+use Rattle.history.specs.ValidLaws.{valid-nil}
+use Rattle.history.specs.Words.{limit}
+use Rattle.table.specs.declared.Table.{Table}
+use Rattle.table.specs.Table.{sites, rowOf, withRow, storedAt, emptiedAt, emptyTable, validRow, validTable}
+use Rattle.table.specs.TableLaws.{Sized, WellSized, row-none, row-cases, row-same, row-other, stored-keeps, count-same, count-empty, row-empty, emptied-is}
+
+-- ---- a row
+
+-- what is right with row i of a valid table, for n sites
+pub record ValidRow (n : ℕ) (t : Table) (i : ℕ) : Type 0 where
+  pub count-le : getD (t .counts) i 0 ≤ limit
+  pub history : i < n → validHistory (rowOf t i) ≡ true
+  pub count-zero : n ≤ i → getD (t .counts) i 0 ≡ 0
+  pub empty : n ≤ i → rowOf t i ≡ []
+
+valid-row : (n : ℕ) (t : Table) (i : ℕ) → validRow n (t .words) (t .counts) i ≡ true → ValidRow n t i
+unfolding validRow
+valid-row n t i e =
+    let count = getD (t .counts) i 0 in
+    let rest : cond (ltb i n) (validHistory (rowOf t i)) (eqb count 0) ≡ true = and-right (leb count limit) _ e in
+    let none : n ≤ i → count ≡ 0 = λ p. eqb-true count 0 (rw (le-ltb i n p) at rest) in
+    record {
+      count-le = leb-true count limit (and-left (leb count limit) _ e);
+      history = λ p. rw (lt-ltb i n p) at rest;
+      count-zero = none;
+      empty = λ p. row-none (t .words) (t .counts) i (none p);
+    }
+
+row-valid : (n : ℕ) (t : Table) (i : ℕ) → ValidRow n t i → validRow n (t .words) (t .counts) i ≡ true
+unfolding validRow
+row-valid n t i v =
+    let fits = le-leb (getD (t .counts) i 0) limit (v .count-le) in
+    ⊎-elim (λ p. rw (fits, lt-ltb i n p) (v .history p))
+    (λ p. rw (fits, le-ltb i n p) (eq-eqb (getD (t .counts) i 0) 0 (v .count-zero p)))
+    (lt-or-le i n)
+
+-- ---- the table
+
+-- it is valid exactly where each row is
+pub valid-each : (n : ℕ) (t : Table) → validTable n t ≡ true → (i : ℕ) → i < sites → ValidRow n t i
+unfolding validTable
+valid-each n t e i p = valid-row n t i (all-each sites (validRow n (t .words) (t .counts)) e i p)
+
+pub each-valid : (n : ℕ) (t : Table) → ((i : ℕ) → i < sites → ValidRow n t i) → validTable n t ≡ true
+unfolding validTable
+each-valid n t h = each-all sites (validRow n (t .words) (t .counts)) (λ i p. row-valid n t i (h i p))
+
+-- every row is a valid history, the empty ones too
+pub valid-history : (n : ℕ) (t : Table) → validTable n t ≡ true → (i : ℕ) → i < sites → validHistory (rowOf t i) ≡ true
+valid-history n t e i p =
+    let v = valid-each n t e i p in
+    ⊎-elim (v .history) (λ q. rw (v .empty q) valid-nil) (lt-or-le i n)
+
+-- no count is over 32
+pub valid-well-sized : (n : ℕ) {t : Table} → Sized t → validTable n t ≡ true → WellSized t
+valid-well-sized n {t} s e =
+    record {
+      sized = s;
+      count-le = λ i.
+          ⊎-elim (λ p. valid-each n t e i p .count-le)
+          (λ p. omega (arith, List·getD-eq-default (t .counts) 0 {n = i} (omega arith)))
+          (lt-or-le i sites);
+    }
+
+-- ---- stores
+
+-- a row that stays is as valid as it was
+valid-same : (n : ℕ) (s t : Table) (i : ℕ) → getD (s .counts) i 0 ≡ getD (t .counts) i 0 → rowOf s i ≡ rowOf t i → ValidRow n t i → ValidRow n s i
+valid-same n s t i c r v =
+    record {
+      count-le = rw c (v .count-le);
+      history = λ p. rw r (v .history p);
+      count-zero = λ p. c ∙ v .count-zero p;
+      empty = λ p. r ∙ v .empty p;
+    }
+
+-- a row that is written is valid if the list is, and empty at n or above
+valid-new : (n : ℕ) (t : Table) (i : ℕ) (l : List ℕ) → length l ≤ limit → validHistory l ≡ true → (n ≤ i → l ≡ []) → ValidRow n (withRow t i l) i
+valid-new n t i l p v z =
+    let s = withRow t i l in
+    let c : (getD (s .counts) i 0 ≡ length l) ⊎ (getD (s .counts) i 0 ≡ 0) = count-same (t .counts) i (length l) in
+    let none : n ≤ i → getD (s .counts) i 0 ≡ 0 = λ q. ⊎-elim (λ e. e ∙ ap length (z q)) (λ e. e) c in
+    record {
+      count-le = ⊎-elim (λ e. omega arith) (λ e. omega arith) c;
+      history = λ q.
+          ⊎-elim (λ e. rw e valid-nil)
+          (λ w. rw (row-same t i l (rw length-set at (w .counted)) (rw length-sets at (w .worded)) p) v)
+          (row-cases (s .words) (s .counts) i);
+      count-zero = none;
+      empty = λ q. row-none (s .words) (s .counts) i (none q);
+    }
+
+valid-with : (n : ℕ) (t : Table) (i : ℕ) (l : List ℕ) → validHistory l ≡ true → (n ≤ i → l ≡ []) → validTable n t ≡ true
+    → validTable n (storedAt t i l) ≡ true
+valid-with n t i l v z e =
+    stored-keeps (λ s. validTable n s ≡ true) t i l e
+    (λ p q.
+    each-valid n (withRow t i l)
+    (λ j r.
+    elim (ℕ-discrete j i) [
+      | yes f ↦ subst (λ (k : ℕ). ValidRow n (withRow t i l) k) (sym f) (valid-new n t i l q v z)
+      | no f ↦ valid-same n (withRow t i l) t j (getD-set-other (t .counts) i j (length l) 0 f) (row-other t i l j f) (valid-each n t e j r)
+    ]))
+
+-- a valid history stored at a site keeps the table valid; so does a row that is forgotten; and the empty table is valid
+pub valid-stored : (n : ℕ) (t : Table) (i : ℕ) (l : List ℕ) → validTable n t ≡ true → i < n → validHistory l ≡ true
+    → validTable n (storedAt t i l) ≡ true
+valid-stored n t i l e p v = valid-with n t i l v (λ q. absurd (omega arith)) e
+
+pub valid-emptied : (n : ℕ) (t : Table) (i : ℕ) → validTable n t ≡ true → validTable n (emptiedAt t i) ≡ true
+valid-emptied n t i e = rw (emptied-is t i) (valid-with n t i [] valid-nil (λ q. refl) e)
+
+pub valid-empty : (n : ℕ) → validTable n emptyTable ≡ true
+valid-empty n =
+    each-valid n emptyTable
+    (λ i p.
+    record {
+      count-le = omega (arith, count-empty i);
+      history = λ q. rw (row-empty i) valid-nil;
+      count-zero = λ q. count-empty i;
+      empty = λ q. row-empty i;
+    })
