@@ -8,6 +8,7 @@ ghost use Rattle.history.specs.Front as front;
 ghost use Rattle.history.specs.Words as words;
 
 // A history by value: the first `count` words. The words after them mean nothing.
+#[repr(C)]
 pub struct History {
     pub count: u8,
     pub words: [u64; 32],

@@ -251,8 +251,17 @@ merge-valid g h p u q e =
       in-order = merge-canonical g h e;
     }
 
--- "least history": the merge of two histories repeats no request
+-- "least history": the merge of two histories is one, of valid histories a valid one
+pub merge-appended : {g h m : List ℕ} → repeated h ≡ false → IsMerge g h m → Equivalent m (appended g h)
+merge-appended {m = m} v p = least-unique (p .common) (appended-least v (record { common = m; left = p .common .left; right = p .common .right }))
+
 pub merge-distinct : {g h m : List ℕ} → repeated g ≡ false → repeated h ≡ false → IsMerge g h m → repeated m ≡ false
-merge-distinct {g} {h} {m} u v p =
-    repeated-along (least-unique (p .common) (appended-least v (record { common = m; left = p .common .left; right = p .common .right })))
-    ∙ appended-distinct g h u
+merge-distinct {g} {h} u v p = repeated-along (merge-appended v p) ∙ appended-distinct g h u
+
+pub is-merge-valid : {g h m : List ℕ} → ValidHistory g → ValidHistory h → IsMerge g h m → ValidHistory m
+is-merge-valid {g} {h} p q k =
+    record {
+      commands = all-valid-along (merge-appended (q .distinct) k) ∙ appended-all-valid g h (p .commands) (q .commands);
+      distinct = merge-distinct (p .distinct) (q .distinct) k;
+      in-order = k .in-order;
+    }

@@ -5,12 +5,15 @@ ghost use Rattle.roster.specs.Roster.{validRoster, quorum, weakCertifica
 ghost use Rattle.roster.specs.Mask.{reaches, beyond, bit, withSite};
 
 // A count of views, from 0.
+#[repr(C)]
 pub struct View(pub u32);
 
 // A count of ballots, from 0.
+#[repr(C)]
 pub struct Ballot(pub u32);
 
 // `n` sites, numbered from 0, of which `f` may lie.
+#[repr(C)]
 pub struct Roster {
     pub n: u8,
     pub f: u8,

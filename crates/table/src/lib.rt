@@ -11,6 +11,7 @@ use history::History;
 
 // One history a site: row i is words 32 * i to 32 * i + 31, of which the first counts[i] are the history. The words after them mean
 // nothing.
+#[repr(C)]
 pub struct Table {
     pub counts: [u8; 16],
     pub words: [u64; 512],

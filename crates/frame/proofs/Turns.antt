@@ -1,0 +1,275 @@
+-- One turn of each loop, and what it leaves at its end.
+use Prim.Native.Nat.{ℕ, zero, suc, _+_, _-_, _*_, _/_, _%_, _^_, _≤_, _<_, zero-le}
+use native.Mathlib.Nat.{add-zero, pow-suc, pow-le-pow-right, sub-zero, zero-lt-suc, le-refl}
+use native.Mathlib.Numerals.{add-one}
+use native.Mathlib.Omega.{arith}
+use mathlib.Core.Path.{_≡_, refl, sym, ap, ap₂, subst, _∙_}
+use mathlib.Core.Bool.{Bool, true, false, cond, _&&_, _||_, true≢false, false≢true, and-false, and-assoc}
+use mathlib.Core.List.{List, [], _∷_, _++_, append-nil, append-assoc}
+use lib.Dec.{leb, ltb, eqb}
+use lib.Pow.{pow-mono}
+use lib.ListN.{length, getD, take, drop, set, length-set, length-append, length-drop, drop-of-length-le}
+use lib.Seq.{drop-cons, take-suc, take-suc-set, drop-set-add, drop-set-lt, take-set-le, set-split, take-all}
+use borrow.Author.Tests.{eqb-true, ltb-true, ne-eqb, eq-eqb}
+use Rattle.frame.specs.declared.Spelled.{Spelled}
+use Rattle.frame.specs.Hex.{digit, isDigit, valueOf, allDigits, byteOf, numberFrom, number, digitsOf, spell, numbers, total}
+use Rattle.frame.specs.HexLaws.{Byte, byte-of, value-lt}
+use Rattle.frame.specs.Kinds.{uses, isKind, zeroUnless}
+use Rattle.frame.specs.Format.{allZero}
+use Rattle.frame.specs.Leaves.{digitIn, numberIn, pair, properHeader}
+use Rattle.frame.specs.Tests.{and-left, and-right, and-both, everyBelow, every-at}
+
+-- what is left of a list at i is its element there and what is left after it
+pub drop-next : (l : List ℕ) (i : ℕ) → i < length l → drop i l ≡ getD l i 0 ∷ drop (i + 1) l
+drop-next l i h = rw (add-one) (drop-cons l i 0 h)
+
+-- ---- words that are all 0
+
+pub zero-stop : (l : List ℕ) (i : ℕ) → i < length l → (getD l i 0 ≡ 0 → ⊥) → allZero (drop i l) ≡ false
+unfolding allZero
+zero-stop l i h e = rw (drop-next l i h, ne-eqb (getD l i 0) 0 e)
+
+pub zero-more : (l : List ℕ) (i : ℕ) → i < length l → getD l i 0 ≡ 0 → allZero (drop i l) ≡ allZero (drop (i + 1) l)
+unfolding allZero
+zero-more l i h e = rw (drop-next l i h, eq-eqb (getD l i 0) 0 e)
+
+pub zero-end : (l : List ℕ) (i : ℕ) → length l ≤ i → allZero (drop i l) ≡ true
+unfolding allZero
+zero-end l i h = rw (drop-of-length-le l {i = i} h)
+
+-- ---- fields that a kind doesn't use
+
+-- the same of a row of the table of kinds
+row-next : (r : List Bool) (i : ℕ) → i < length r → drop i r ≡ getD r i false ∷ drop (i + 1) r
+row-next r i h = rw (add-one) (drop-cons r i false h)
+
+row-test : ℕ → Bool
+row-test k = eqb (length (getD uses k [])) 8
+
+all-rows : everyBelow 11 row-test ≡ true
+unfolding everyBelow row-test uses
+all-rows = refl
+
+-- each row has an entry for each field
+pub row-length : (k : ℕ) → k < 11 → length (getD uses k []) ≡ 8
+unfolding row-test
+row-length k h = eqb-true (length (getD uses k [])) 8 (every-at 11 row-test all-rows k h)
+
+pub unused-stop : (r : List Bool) (l : List ℕ) (i : ℕ) → i < length r → i < length l → (getD r i false || eqb (getD l i 0) 0) ≡ false
+    → zeroUnless (drop i r) (drop i l) ≡ false
+unfolding zeroUnless
+unused-stop r l i h j e = rw (row-next r i h, drop-next l i j, e)
+
+pub unused-more : (r : List Bool) (l : List ℕ) (i : ℕ) → i < length r → i < length l → (getD r i false || eqb (getD l i 0) 0) ≡ true
+    → zeroUnless (drop i r) (drop i l) ≡ zeroUnless (drop (i + 1) r) (drop (i + 1) l)
+unfolding zeroUnless
+unused-more r l i h j e = rw (row-next r i h, drop-next l i j, e)
+
+pub unused-end : (r : List Bool) (l : List ℕ) (i : ℕ) → length r ≤ i → zeroUnless (drop i r) (drop i l) ≡ true
+unfolding zeroUnless
+unused-end r l i h = rw (drop-of-length-le r {i = i} h)
+
+-- ---- the byte of two characters
+
+pub digit-in-le : (c : ℕ) → digitIn c ≤ 256
+unfolding digitIn
+digit-in-le c = go (isDigit c) refl
+  where
+    go : (b : Bool) → isDigit c ≡ b → cond b (valueOf c) 256 ≤ 256
+    go true e = omega (arith, value-lt c e)
+    go false e = le-refl 256
+
+digit-in : (c : ℕ) → isDigit c ≡ true → digitIn c ≡ valueOf c
+unfolding digitIn
+digit-in c e = rw e
+
+no-digit-in : (c : ℕ) → isDigit c ≡ false → digitIn c ≡ 256
+unfolding digitIn
+no-digit-in c e = rw e
+
+-- below 256 exactly if both are digits
+pub both-digits : (a b : ℕ) → 16 * digitIn a + digitIn b < 256 → (isDigit a ≡ true) × (isDigit b ≡ true)
+both-digits a b h = go (isDigit a) (isDigit b) refl refl
+  where
+    go : (p q : Bool) → isDigit a ≡ p → isDigit b ≡ q → (isDigit a ≡ true) × (isDigit b ≡ true)
+    go true true e f = (e, f)
+    go true false e f = absurd (omega (arith, no-digit-in b f))
+    go false q e f = absurd (omega (arith, no-digit-in a e))
+
+pub not-both : (a b : ℕ) → 256 ≤ 16 * digitIn a + digitIn b → (isDigit a && isDigit b) ≡ false
+not-both a b h = go (isDigit a) (isDigit b) refl refl
+  where
+    go : (p q : Bool) → isDigit a ≡ p → isDigit b ≡ q → (p && q) ≡ false
+    go true true e f = absurd (omega (arith, digit-in a e, digit-in b f, value-lt a e, value-lt b f))
+    go true false e f = refl
+    go false q e f = refl
+
+-- ---- a header's values
+
+module _ (h : List ℕ) where
+  abbrev pub known : Bool
+  known = leb 1 (getD h 0 0) && ltb (getD h 0 0) 11
+
+  abbrev pub few : Bool
+  few = leb (getD h 6 0) 32 && leb (getD h 7 0) 32
+
+  -- an unknown kind, counts too high, and otherwise the fields that the kind doesn't use
+  pub proper-unknown : known ≡ false → properHeader h ≡ false
+  unfolding properHeader isKind uses
+  proper-unknown e = ap (λ (b : Bool). b && (few && zeroUnless (getD uses (getD h 0 0) []) h)) e
+
+  pub proper-many : known ≡ true → few ≡ false → properHeader h ≡ false
+  unfolding properHeader isKind uses
+  proper-many e f = ap₂ (λ (a b : Bool). a && (b && zeroUnless (getD uses (getD h 0 0) []) h)) e f
+
+  pub proper-rest : known ≡ true → few ≡ true → properHeader h ≡ zeroUnless (getD uses (getD h 0 0) []) h
+  unfolding properHeader isKind uses
+  proper-rest e f = ap₂ (λ (a b : Bool). a && (b && zeroUnless (getD uses (getD h 0 0) []) h)) e f
+
+-- ---- one number that is read
+
+-- what is left of digits at a byte: its two digits, and what is left after it
+two-next : (l : List ℕ) (i : ℕ) → 2 * i + 1 < length l → drop (2 * i) l ≡ getD l (2 * i) 0 ∷ getD l (2 * i + 1) 0 ∷ drop (2 * (i + 1)) l
+two-next l i h =
+    let e : 2 * i + 1 + 1 ≡ 2 * (i + 1) = omega arith in
+    drop-next l (2 * i) (omega arith)
+    ∙ ap (λ (r : List ℕ). getD l (2 * i) 0 ∷ r) (drop-next l (2 * i + 1) h ∙ ap (λ (n : ℕ). getD l (2 * i + 1) 0 ∷ drop n l) e)
+
+-- what the loop keeps at byte i, x being the number so far: the digits' test and the number go on from there
+pub record Spelling (l : List ℕ) (width x i : ℕ) : Type 0 where
+  pub inside : i ≤ width
+  pub below : x < 256 ^ i
+  pub digits : allDigits (drop (2 * i) l) ≡ allDigits l
+  pub value : numberFrom x (drop (2 * i) l) ≡ number l
+
+pub spelling-start : (l : List ℕ) (width : ℕ) → Spelling l width 0 0
+spelling-start l width = record { inside = zero-le; below = zero-lt-suc 0; digits = refl; value = refl }
+
+-- a number so far has room for one byte more
+pub room : (i x : ℕ) → x < 256 ^ i → i < 8 → 256 * x + 255 < 2 ^ 64
+room i x h l = omega (arith, pow-le-pow-right {n = 256} (zero-lt-suc 255) {i = i} {j = 7} (omega arith))
+
+module _ (l : List ℕ) (width x i : ℕ) (inv : Spelling l width x i) where
+  module _ (size : length l ≡ 2 * width) (more : i < width) (y : ℕ) (e : y ≡ 16 * digitIn (getD l (2 * i) 0) + digitIn (getD l (2 * i + 1) 0)) where
+    a : ℕ
+    a = getD l (2 * i) 0
+
+    b : ℕ
+    b = getD l (2 * i + 1) 0
+
+    next : drop (2 * i) l ≡ a ∷ b ∷ drop (2 * (i + 1)) l
+    unfolding a b
+    next = two-next l i (omega arith)
+
+    -- not both are digits
+    pub spelling-stop : 256 ≤ y → _≡_ {A = Spelled} (record { good = false; value = 0 }) (numberIn l)
+    unfolding numberIn allDigits a b
+    spelling-stop h =
+        let no : (isDigit a && isDigit b) ≡ false = not-both a b (omega arith) in
+        let bad : allDigits l ≡ false =
+        sym (inv .digits) ∙ ap allDigits next ∙ sym (and-assoc (isDigit a) (isDigit b) (allDigits (drop (2 * (i + 1)) l)))
+        ∙ ap (λ (t : Bool). t && allDigits (drop (2 * (i + 1)) l)) no in
+        sym (ap (λ (t : Bool). record { good = t; value = cond t (number l) 0 }) bad)
+
+    -- both are, and make a byte
+    pub spelling-turn : y < 256 → Spelling l width (256 * x + y) (i + 1)
+    unfolding allDigits numberFrom byteOf a b
+    spelling-turn h =
+        let both = both-digits a b (omega arith) in
+        let byte : y ≡ byteOf a b = omega (arith, digit-in a (both .0), digit-in b (both .1)) in
+        record {
+          inside = omega arith;
+          below = rw (add-one i, pow-suc 256 i) (omega (arith, inv .below));
+          digits = sym (ap allDigits next ∙ ap₂ (λ (s t : Bool). s && (t && allDigits (drop (2 * (i + 1)) l))) (both .0) (both .1)) ∙ inv .digits;
+          value =
+              ap (λ (n : ℕ). numberFrom (256 * x + n) (drop (2 * (i + 1)) l)) byte
+              ∙ sym (ap (numberFrom x) next) ∙ inv .value;
+        }
+
+  pub spelling-end : length l ≡ 2 * width → width ≤ i → _≡_ {A = Spelled} (record { good = true; value = x }) (numberIn l)
+  unfolding numberIn allDigits numberFrom
+  spelling-end size h =
+      let over : drop (2 * i) l ≡ [] = drop-of-length-le l {i = 2 * i} (omega arith) in
+      let good : true ≡ allDigits l = sym (ap allDigits over) ∙ inv .digits in
+      let same : x ≡ number l = sym (ap (numberFrom x) over) ∙ inv .value in
+      ap₂ (λ (t : Bool) (n : ℕ). record { good = t; value = cond t n 0 }) good same
+
+-- ---- one number that is written
+
+below-test : ℕ → Bool
+below-test d = ltb (digit d) 256
+
+all-below : everyBelow 16 below-test ≡ true
+unfolding everyBelow below-test digit
+all-below = refl
+
+digit-below : (d : ℕ) → d < 16 → digit d < 256
+unfolding below-test
+digit-below d h = ltb-true (digit d) 256 (every-at 16 below-test all-below d h)
+
+-- the two characters of a byte
+pub record Characters (p b : ℕ) : Type 0 where
+  pub first : p % 256 ≡ digit (b / 16)
+  pub second : p / 256 ≡ digit (b % 16)
+  pub below : p / 256 < 256
+
+pub characters : (p b : ℕ) → b < 256 → p ≡ pair b → Characters p b
+unfolding pair
+characters p b h e =
+    let u = digit-below (b / 16) (omega arith) in
+    let v = digit-below (b % 16) (omega arith) in
+    record { first = omega arith; second = omega arith; below = omega arith }
+
+-- two elements that are stored, as what is left there shows
+two-set : (l : List ℕ) (at u v : ℕ) → at + 1 < length l → drop at (set (set l at u) (at + 1) v) ≡ u ∷ v ∷ drop (at + 2) l
+two-set l at u v h =
+    let e : at + 1 + 1 ≡ at + 2 = omega arith in
+    let whole : drop at l ≡ getD l at 0 ∷ getD l (at + 1) 0 ∷ drop (at + 2) l =
+    drop-next l at (omega arith) ∙ ap (λ (r : List ℕ). getD l at 0 ∷ r) (drop-next l (at + 1) h ∙ ap (λ (n : ℕ). getD l (at + 1) 0 ∷ drop n l) e) in
+    let one : drop at (set l at u) ≡ set (drop at l) 0 u =
+    ap (λ (n : ℕ). drop at (set l n u)) (sym (add-zero at)) ∙ drop-set-add at l 0 u in
+    drop-set-add at (set l at u) 1 v ∙ ap (λ (r : List ℕ). set r 1 v) (one ∙ ap (λ (r : List ℕ). set r 0 u) whole)
+
+-- what the loop keeps: the first k bytes, those of x, and then what is written make the goal
+pub record Putting (l : List ℕ) (x k n : ℕ) (goal : List ℕ) : Type 0 where
+  pub size : length l ≡ n
+  pub inside : 2 * k ≤ n
+  pub rest : digitsOf k x ++ drop (2 * k) l ≡ goal
+
+pub putting-start : (l : List ℕ) (width x : ℕ) → length l ≡ 2 * width → Putting l x width (length l) (digitsOf width x)
+putting-start l width x e =
+    record {
+      size = refl;
+      inside = omega arith;
+      rest =
+          ap (λ (r : List ℕ). digitsOf width x ++ r) (drop-of-length-le l {i = 2 * width} (omega arith))
+          ∙ append-nil (digitsOf width x);
+    }
+
+pub putting-turn : (l : List ℕ) (x k n : ℕ) (goal : List ℕ) (p : ℕ) → Putting l x k n goal → 0 < k → p ≡ pair (x % 256)
+    → Putting (set (set l (2 * (k - 1)) (p % 256)) (2 * (k - 1) + 1) (p / 256)) (x / 256) (k - 1) n goal
+unfolding digitsOf
+putting-turn l x k n goal p inv h e =
+    let j = k - 1 in
+    let chars = characters p (x % 256) (omega arith) e in
+    let at : 2 * j + 2 ≡ 2 * k = omega arith in
+    let up : k ≡ suc j = omega arith in
+    let last : digitsOf k x ≡ digitsOf j (x / 256) ++ digit (x % 256 / 16) ∷ digit (x % 256 % 16) ∷ [] =
+    ap (λ (m : ℕ). digitsOf m x) up in
+    record {
+      size = length-set (set l (2 * j) (p % 256)) (2 * j + 1) (p / 256) ∙ length-set l (2 * j) (p % 256) ∙ inv .size;
+      inside = omega (arith, inv .inside);
+      rest =
+          ap (λ (r : List ℕ). digitsOf j (x / 256) ++ r)
+          (two-set l (2 * j) (p % 256) (p / 256) (omega (arith, inv .inside, inv .size))
+          ∙ ap₂ (λ (u v : ℕ). u ∷ v ∷ drop (2 * j + 2) l) (chars .first) (chars .second)
+          ∙ ap (λ (m : ℕ). digit (x % 256 / 16) ∷ digit (x % 256 % 16) ∷ drop m l) at)
+          ∙ sym (append-assoc (digitsOf j (x / 256)) (digit (x % 256 / 16) ∷ digit (x % 256 % 16) ∷ []) (drop (2 * k) l))
+          ∙ sym (ap (λ (s : List ℕ). s ++ drop (2 * k) l) last)
+          ∙ inv .rest;
+    }
+
+pub putting-end : (l : List ℕ) (x k n : ℕ) (goal : List ℕ) → Putting l x k n goal → k ≤ 0 → l ≡ goal
+unfolding digitsOf
+putting-end l x zero n goal inv h = inv .rest
+putting-end l x (suc k) n goal inv h = absurd (omega arith)

@@ -1,0 +1,447 @@
+-- Laws of the format: reading what was written gives the frame, writing what was read gives the line, and what is known of both.
+use Prim.Native.Nat.{ℕ, zero, suc, _+_, _-_, _*_, _^_, _≤_, _<_}
+use native.Mathlib.Nat.{zero-add, suc-add, le-refl}
+use native.Mathlib.Omega.{arith}
+use mathlib.Core.Path.{_≡_, refl, sym, ap, ap₂, subst, _∙_}
+use mathlib.Core.Bool.{Bool, true, false, cond, _&&_, true≢false}
+use mathlib.Core.List.{List, [], _∷_, _++_, append-nil, append-assoc}
+use lib.Dec.{leb, ltb, eqb}
+use lib.ListN.{length, getD, take, drop, replicate, length-append, length-replicate, length-drop, take-append-drop, drop-of-length-le}
+use lib.Seq.{take-at, drop-at, getD-at, take-add, split-at, length-take-le}
+use borrow.Author.Tests.{eqb-true, eq-eqb, leb-true, ltb-true}
+use Rattle.frame.specs.declared.Frame.{Frame}
+use Rattle.frame.specs.declared.Reading.{Reading}
+use Rattle.roster.specs.Mask.{bit}
+use Rattle.frame.specs.Hex.{isDigit, allDigits, digitsOf, spell, numbers, allFit, total}
+use Rattle.frame.specs.HexLaws.{all-append, number-digits, length-spell, all-spell, numbers-spell, numbers-fit, spell-numbers, length-numbers, numbers-take}
+use Rattle.frame.specs.Layout.{commandWidth, limit, capacity, widths, values, withValues, count, lineLength, longest}
+use Rattle.frame.specs.Kinds.{isKind, unusedZero}
+use Rattle.frame.specs.Format.{commands, lineFeed, lineOf, proper, allZero, fits, writable, padded, framed, frameOf, isLine, nothing, readingOf}
+use Rattle.frame.specs.Tests.{and-left, and-right, and-both}
+
+-- ---- the layout
+
+-- the header has 18 bytes, and the longest line 1,061 characters
+pub header-bytes : total widths ≡ 18
+unfolding total
+header-bytes = refl
+
+pub longest-is : longest ≡ 1061
+unfolding total
+longest-is = refl
+
+pub total-commands : (k : ℕ) → total (commands k) ≡ commandWidth * k
+unfolding total
+total-commands zero = refl
+total-commands (suc k) = omega (arith, total-commands k)
+
+-- ---- what is known of a proper and of a writable frame
+
+module _ (f : Frame) (p : proper f ≡ true) where
+  pub proper-kind : isKind (f .kind) ≡ true
+  unfolding proper
+  proper-kind = and-left (isKind (f .kind)) ((leb (f .n) limit && leb (f .m) limit) && unusedZero f) p
+
+  counts : (leb (f .n) limit && leb (f .m) limit) ≡ true
+  unfolding proper
+  counts =
+      and-left (leb (f .n) limit && leb (f .m) limit) (unusedZero f)
+      (and-right (isKind (f .kind)) ((leb (f .n) limit && leb (f .m) limit) && unusedZero f) p)
+
+  pub proper-unused : unusedZero f ≡ true
+  unfolding proper
+  proper-unused =
+      and-right (leb (f .n) limit && leb (f .m) limit) (unusedZero f)
+      (and-right (isKind (f .kind)) ((leb (f .n) limit && leb (f .m) limit) && unusedZero f) p)
+
+  pub proper-n : f .n ≤ limit
+  proper-n = leb-true (f .n) limit (and-left (leb (f .n) limit) (leb (f .m) limit) counts)
+
+  pub proper-m : f .m ≤ limit
+  proper-m = leb-true (f .m) limit (and-right (leb (f .n) limit) (leb (f .m) limit) counts)
+
+  pub proper-count : count f ≤ capacity
+  proper-count = omega (arith, proper-n, proper-m)
+
+pub record Written (f : Frame) : Type 0 where
+  pub values-proper : proper f ≡ true
+  pub clear : allZero (drop (count f) (f .words)) ≡ true
+  pub header-fits : allFit widths (values f) ≡ true
+  pub words-fit : allFit (commands capacity) (f .words) ≡ true
+
+pub writable-is : (f : Frame) → writable f ≡ true → Written f
+unfolding writable fits
+writable-is f e =
+    let z = allZero (drop (count f) (f .words)) in
+    let a = allFit widths (values f) in
+    let b = allFit (commands capacity) (f .words) in
+    let r = and-right (proper f) (z && (a && b)) e in
+    let s = and-right z (a && b) r in
+    record {
+      values-proper = and-left (proper f) (z && (a && b)) e;
+      clear = and-left z (a && b) r;
+      header-fits = and-left a b s;
+      words-fit = and-right a b s;
+    }
+
+pub is-writable : (f : Frame) → Written f → writable f ≡ true
+unfolding writable fits
+is-writable f w = simp (w .values-proper, w .clear, w .header-fits, w .words-fit)
+
+-- what makes a line
+pub record Parts (l : List ℕ) : Type 0 where
+  pub digits : allDigits (take (length l - 1) l) ≡ true
+  pub feed : getD l (length l - 1) 0 ≡ lineFeed
+  pub size : length l ≡ lineLength (count (frameOf l))
+  pub values-proper : proper (frameOf l) ≡ true
+
+pub line-is : (l : List ℕ) → isLine l ≡ true → Parts l
+unfolding isLine
+line-is l e =
+    let d = allDigits (take (length l - 1) l) in
+    let c = eqb (getD l (length l - 1) 0) lineFeed in
+    let s = eqb (length l) (lineLength (count (frameOf l))) in
+    let v = proper (frameOf l) in
+    let left = and-left (d && c) (s && v) e in
+    let right = and-right (d && c) (s && v) e in
+    record {
+      digits = and-left d c left;
+      feed = eqb-true (getD l (length l - 1) 0) lineFeed (and-right d c left);
+      size = eqb-true (length l) (lineLength (count (frameOf l))) (and-left s v right);
+      values-proper = and-right s v right;
+    }
+
+pub is-line : (l : List ℕ) → Parts l → isLine l ≡ true
+unfolding isLine
+is-line l p =
+    let feed = eq-eqb (getD l (length l - 1) 0) lineFeed (p .feed) in
+    let size = eq-eqb (length l) (lineLength (count (frameOf l))) (p .size) in
+    simp (p .digits, feed, size, p .values-proper)
+
+-- ---- words, and the commands among them
+
+-- numbers that fit are as many as their widths
+pub fit-length : (ws xs : List ℕ) → allFit ws xs ≡ true → length xs ≡ length ws
+unfolding allFit
+fit-length [] [] e = refl
+fit-length [] (x ∷ xs) e = absurd (true≢false (sym e))
+fit-length (w ∷ ws) [] e = absurd (true≢false (sym e))
+fit-length (w ∷ ws) (x ∷ xs) e = ap suc (fit-length ws xs (and-right (ltb x (256 ^ w)) (allFit ws xs) e))
+
+-- the first k of j words fit, and spell as all of them do in k places
+fit-front : (k j : ℕ) (xs : List ℕ) → k ≤ j → allFit (commands j) xs ≡ true → allFit (commands k) (take k xs) ≡ true
+unfolding allFit
+fit-front zero j xs h e = refl
+fit-front (suc k) zero xs h e = absurd (omega arith)
+fit-front (suc k) (suc j) [] h e = absurd (true≢false (sym e))
+fit-front (suc k) (suc j) (x ∷ xs) h e =
+    let t = ltb x (256 ^ commandWidth) in
+    and-both t (allFit (commands k) (take k xs)) (and-left t (allFit (commands j) xs) e)
+    (fit-front k j xs (omega arith) (and-right t (allFit (commands j) xs) e))
+
+pub spell-front : (k : ℕ) (xs : List ℕ) → spell (commands k) (take k xs) ≡ spell (commands k) xs
+unfolding spell
+spell-front zero xs = refl
+spell-front (suc k) [] = refl
+spell-front (suc k) (x ∷ xs) = ap (λ (s : List ℕ). digitsOf commandWidth x ++ s) (spell-front k xs)
+
+zeros-are : (xs : List ℕ) → allZero xs ≡ true → xs ≡ replicate (length xs) 0
+unfolding allZero
+zeros-are [] e = refl
+zeros-are (x ∷ xs) e =
+    ap₂ (λ (n : ℕ) (s : List ℕ). n ∷ s) (eqb-true x 0 (and-left (eqb x 0) (allZero xs) e)) (zeros-are xs (and-right (eqb x 0) (allZero xs) e))
+
+all-zeros : (n : ℕ) → allZero (replicate n 0) ≡ true
+unfolding allZero
+all-zeros zero = refl
+all-zeros (suc n) = all-zeros n
+
+-- words whose rest is 0 are their first ones padded
+padded-words : (k : ℕ) (xs : List ℕ) → length xs ≡ capacity → k ≤ capacity → allZero (drop k xs) ≡ true → padded (take k xs) ≡ xs
+padded-words k xs e h z =
+    let rest : capacity - length (take k xs) ≡ length (drop k xs) = omega (arith, length-drop k xs, length-take-le k xs (omega arith)) in
+    ap (λ (n : ℕ). take k xs ++ replicate n 0) rest
+    ∙ ap (λ (s : List ℕ). take k xs ++ s) (sym (zeros-are (drop k xs) z))
+    ∙ take-append-drop k xs
+
+-- numbers that fit do so with zeros after them, and spell the same
+zeros-fit : (j : ℕ) → allFit (commands j) (replicate j 0) ≡ true
+unfolding allFit
+zeros-fit zero = refl
+zeros-fit (suc j) = zeros-fit j
+
+fit-more : (k j : ℕ) (xs : List ℕ) → allFit (commands k) xs ≡ true → allFit (commands (k + j)) (xs ++ replicate j 0) ≡ true
+unfolding allFit
+fit-more zero j [] e = subst (λ (n : ℕ). allFit (commands n) (replicate j 0) ≡ true) (sym (zero-add j)) (zeros-fit j)
+fit-more zero j (x ∷ xs) e = absurd (true≢false (sym e))
+fit-more (suc k) j [] e = absurd (true≢false (sym e))
+fit-more (suc k) j (x ∷ xs) e =
+    let t = ltb x (256 ^ commandWidth) in
+    subst (λ (n : ℕ). allFit (commands n) (x ∷ xs ++ replicate j 0) ≡ true) (sym (suc-add k j))
+    (and-both t (allFit (commands (k + j)) (xs ++ replicate j 0)) (and-left t (allFit (commands k) xs) e)
+    (fit-more k j xs (and-right t (allFit (commands k) xs) e)))
+
+spell-more : (k : ℕ) (xs r : List ℕ) → length xs ≡ k → spell (commands k) (xs ++ r) ≡ spell (commands k) xs
+spell-more k xs r e =
+    sym (spell-front k (xs ++ r)) ∙ ap (spell (commands k)) (take-at xs r k e)
+
+-- ---- the line of a frame
+
+module _ (f : Frame) (w : Written f) where
+  few : count f ≤ capacity
+  few = proper-count f (w .values-proper)
+
+  front-fits : allFit (commands (count f)) (take (count f) (f .words)) ≡ true
+  front-fits = fit-front (count f) capacity (f .words) few (w .words-fit)
+
+  header-size : length (spell widths (values f)) ≡ 2 * total widths
+  header-size = length-spell widths (values f) (w .header-fits)
+
+  commands-size : length (spell (commands (count f)) (f .words)) ≡ 2 * (commandWidth * count f)
+  commands-size =
+      ap length (sym (spell-front (count f) (f .words))) ∙ length-spell (commands (count f)) (take (count f) (f .words)) front-fits
+      ∙ ap (λ (n : ℕ). 2 * n) (total-commands (count f))
+
+  digits-are : List ℕ
+  digits-are = spell widths (values f) ++ spell (commands (count f)) (f .words)
+
+  digits-size : length digits-are ≡ 2 * (total widths + commandWidth * count f)
+  unfolding digits-are
+  digits-size = omega (arith, length-append (spell widths (values f)) (spell (commands (count f)) (f .words)), header-size, commands-size)
+
+  line-split : lineOf f ≡ digits-are ++ lineFeed ∷ []
+  unfolding lineOf digits-are
+  line-split = sym (append-assoc (spell widths (values f)) (spell (commands (count f)) (f .words)) (lineFeed ∷ []))
+
+  -- its length
+  pub line-length : length (lineOf f) ≡ lineLength (count f)
+  line-length = ap length line-split ∙ omega (arith, length-append digits-are (lineFeed ∷ []), digits-size)
+
+  pub line-longest : length (lineOf f) ≤ longest
+  line-longest = omega (arith, line-length, few)
+
+  line-values : numbers widths (lineOf f) ≡ values f
+  unfolding lineOf
+  line-values = numbers-spell widths (values f) (spell (commands (count f)) (f .words) ++ lineFeed ∷ []) (w .header-fits)
+
+  line-rest : drop (2 * total widths) (lineOf f) ≡ spell (commands (count f)) (take (count f) (f .words)) ++ lineFeed ∷ []
+  unfolding lineOf
+  line-rest =
+      drop-at (spell widths (values f)) (spell (commands (count f)) (f .words) ++ lineFeed ∷ []) (2 * total widths) header-size
+      ∙ ap (λ (s : List ℕ). s ++ lineFeed ∷ []) (sym (spell-front (count f) (f .words)))
+
+  -- reading what was written gives the frame
+  pub read-written : frameOf (lineOf f) ≡ f
+  unfolding frameOf framed
+  read-written =
+      ap₂ framed line-values line-rest
+      ∙ ap (λ (ws : List ℕ). withValues (values f) (padded ws))
+      (numbers-spell (commands (count f)) (take (count f) (f .words)) (lineFeed ∷ []) front-fits)
+      ∙ ap (withValues (values f))
+      (padded-words (count f) (f .words) (fit-length (commands capacity) (f .words) (w .words-fit) ∙ length-replicate capacity commandWidth) few (w .clear))
+
+  -- and the line is one
+  line-parts : Parts (lineOf f)
+  unfolding digits-are
+  line-parts =
+      let size : length (lineOf f) - 1 ≡ length digits-are = omega (arith, line-length, digits-size) in
+      record {
+        size = line-length ∙ ap (λ (g : Frame). lineLength (count g)) (sym read-written);
+        digits =
+            ap allDigits (ap₂ take size line-split ∙ take-at digits-are (lineFeed ∷ []) (length digits-are) refl)
+            ∙ all-append (spell widths (values f)) (spell (commands (count f)) (f .words))
+            ∙ and-both (allDigits (spell widths (values f))) (allDigits (spell (commands (count f)) (f .words)))
+            (all-spell widths (values f)) (all-spell (commands (count f)) (f .words));
+        feed = ap₂ (λ (n : ℕ) (l : List ℕ). getD l n 0) size line-split ∙ getD-at digits-are lineFeed [] 0 (length digits-are) refl;
+        values-proper = ap proper read-written ∙ w .values-proper;
+      }
+
+-- ---- the frame of a line
+
+module _ (l : List ℕ) (p : Parts l) where
+  held : ℕ
+  held = count (frameOf l)
+
+  body : List ℕ
+  body = take (length l - 1) l
+
+  body-size : length body ≡ 2 * (total widths + commandWidth * held)
+  unfolding body held
+  body-size = omega (arith, length-take-le (length l - 1) l (omega arith), p .size)
+
+  -- the digits and the line feed
+  body-feed : l ≡ body ++ lineFeed ∷ []
+  unfolding body
+  body-feed =
+      let n = length l - 1 in
+      let inside : n < length l = omega (arith, p .size) in
+      split-at l n 0 inside
+      ∙ ap (λ (r : List ℕ). take n l ++ getD l n 0 ∷ r) (drop-of-length-le l {i = suc n} (omega arith))
+      ∙ ap (λ (c : ℕ). take n l ++ c ∷ []) (p .feed)
+
+  -- those of the header, and those of the commands
+  head-digits : List ℕ
+  head-digits = take (2 * total widths) l
+
+  command-digits : List ℕ
+  command-digits = take (2 * total (commands held)) (drop (2 * total widths) l)
+
+  body-split : body ≡ head-digits ++ command-digits
+  unfolding body head-digits command-digits held
+  body-split =
+      let e : length l - 1 ≡ 2 * total widths + 2 * total (commands (count (frameOf l))) = omega (arith, p .size, total-commands (count (frameOf l))) in
+      ap (λ (n : ℕ). take n l) e
+      ∙ take-add (2 * total widths) (2 * total (commands (count (frameOf l)))) l
+
+  head-size : length head-digits ≡ 2 * total widths
+  unfolding head-digits
+  head-size = length-take-le (2 * total widths) l (omega (arith, p .size))
+
+  command-size : length command-digits ≡ 2 * total (commands held)
+  unfolding command-digits held
+  command-size =
+      length-take-le (2 * total (commands (count (frameOf l)))) (drop (2 * total widths) l)
+      (omega (arith, p .size, total-commands (count (frameOf l)), length-drop (2 * total widths) l))
+
+  both-spelled : (allDigits head-digits && allDigits command-digits) ≡ true
+  unfolding body
+  both-spelled = sym (all-append head-digits command-digits) ∙ ap allDigits (sym body-split) ∙ p .digits
+
+  head-spelled : allDigits head-digits ≡ true
+  head-spelled = and-left (allDigits head-digits) (allDigits command-digits) both-spelled
+
+  command-spelled : allDigits command-digits ≡ true
+  command-spelled = and-right (allDigits head-digits) (allDigits command-digits) both-spelled
+
+  -- the frame's values and words
+  frame-values : values (frameOf l) ≡ numbers widths head-digits
+  unfolding frameOf framed numbers head-digits
+  frame-values = sym (numbers-take widths l (2 * total widths) (le-refl (2 * total widths)))
+
+  words-are : List ℕ
+  words-are = numbers (commands held) command-digits
+
+  words-size : length words-are ≡ held
+  unfolding words-are
+  words-size = length-numbers (commands held) command-digits ∙ length-replicate held commandWidth
+
+  frame-words : frameOf l .words ≡ padded words-are
+  unfolding frameOf framed words-are held command-digits
+  frame-words = ap padded (sym (numbers-take (commands (count (frameOf l))) (drop (2 * total widths) l) (2 * total (commands (count (frameOf l)))) (le-refl (2 * total (commands (count (frameOf l)))))))
+
+  -- writing what was read gives the line
+  written-read : lineOf (frameOf l) ≡ l
+  unfolding lineOf held words-are
+  written-read =
+      ap₂ (λ (s t : List ℕ). s ++ (t ++ lineFeed ∷ []))
+      (ap (spell widths) frame-values ∙ spell-numbers widths head-digits head-size head-spelled)
+      (ap (spell (commands held)) frame-words
+      ∙ spell-more held words-are (replicate (capacity - length words-are) 0) words-size
+      ∙ spell-numbers (commands held) command-digits command-size command-spelled)
+      ∙ sym (append-assoc head-digits command-digits (lineFeed ∷ []))
+      ∙ ap (λ (s : List ℕ). s ++ lineFeed ∷ []) (sym body-split)
+      ∙ sym body-feed
+
+  -- what was read can be written
+  frame-written : Written (frameOf l)
+  unfolding held words-are
+  frame-written =
+      let most : held ≤ capacity = proper-count (frameOf l) (p .values-proper) in
+      let room : held + (capacity - length words-are) ≡ capacity = omega (arith, words-size) in
+      record {
+        values-proper = p .values-proper;
+        clear =
+            ap (λ (ws : List ℕ). allZero (drop held ws)) frame-words
+            ∙ ap allZero (drop-at words-are (replicate (capacity - length words-are) 0) held words-size)
+            ∙ all-zeros (capacity - length words-are);
+        header-fits = ap (allFit widths) frame-values ∙ numbers-fit widths head-digits head-size head-spelled;
+        words-fit =
+            ap (allFit (commands capacity)) frame-words
+            ∙ ap (λ (n : ℕ). allFit (commands n) (padded words-are)) (sym room)
+            ∙ fit-more held (capacity - length words-are) words-are (numbers-fit (commands held) command-digits command-size command-spelled);
+      }
+
+-- ---- both ways, for every kind
+
+-- reading what was written gives the frame
+pub frame-of-line : (f : Frame) → writable f ≡ true → frameOf (lineOf f) ≡ f
+frame-of-line f e = read-written f (writable-is f e)
+
+pub line-is-line : (f : Frame) → writable f ≡ true → isLine (lineOf f) ≡ true
+line-is-line f e = is-line (lineOf f) (line-parts f (writable-is f e))
+
+-- writing what was read gives the line, byte for byte, and what was read can be written
+pub line-of-frame : (l : List ℕ) → isLine l ≡ true → lineOf (frameOf l) ≡ l
+line-of-frame l e = written-read l (line-is l e)
+
+pub frame-is-writable : (l : List ℕ) → isLine l ≡ true → writable (frameOf l) ≡ true
+frame-is-writable l e = is-writable (frameOf l) (frame-written l (line-is l e))
+
+-- so a frame has one line, and a line at most one frame
+pub one-frame : (f g : Frame) → writable f ≡ true → writable g ≡ true → lineOf f ≡ lineOf g → f ≡ g
+one-frame f g p q e = sym (frame-of-line f p) ∙ ap frameOf e ∙ frame-of-line g q
+
+pub one-line : (l r : List ℕ) → isLine l ≡ true → isLine r ≡ true → frameOf l ≡ frameOf r → l ≡ r
+one-line l r p q e = sym (line-of-frame l p) ∙ ap lineOf e ∙ line-of-frame r q
+
+-- the kind and the sender of a written line are the frame's, whatever else it holds
+pub line-kind : (f : Frame) → f .kind < 256 → frameOf (lineOf f) .kind ≡ f .kind
+unfolding frameOf framed numbers lineOf spell digitsOf
+line-kind f h = number-digits 1 (f .kind) h
+
+pub line-sender : (f : Frame) → f .sender < 256 → frameOf (lineOf f) .sender ≡ f .sender
+unfolding frameOf framed numbers lineOf spell digitsOf
+line-sender f h = number-digits 1 (f .sender) h
+
+-- ---- lengths and counts
+
+-- a line is no longer than the longest, and the room that a line needs is its length
+pub length-of-line : (f : Frame) → writable f ≡ true → length (lineOf f) ≡ lineLength (count f)
+length-of-line f e = line-length f (writable-is f e)
+
+pub line-at-most : (f : Frame) → writable f ≡ true → length (lineOf f) ≤ longest
+line-at-most f e = line-longest f (writable-is f e)
+
+-- what is known of a frame that was read or can be written
+pub writable-n : (f : Frame) → writable f ≡ true → f .n ≤ limit
+writable-n f e = proper-n f (writable-is f e .values-proper)
+
+pub writable-m : (f : Frame) → writable f ≡ true → f .m ≤ limit
+writable-m f e = proper-m f (writable-is f e .values-proper)
+
+pub writable-words : (f : Frame) → writable f ≡ true → length (f .words) ≡ capacity
+writable-words f e = fit-length (commands capacity) (f .words) (writable-is f e .words-fit) ∙ length-replicate capacity commandWidth
+
+-- ---- what is read
+
+module _ (l : List ℕ) (kinds : ℕ) where
+  -- found exactly if the line is one and its kind is taken, and then it is the line's frame
+  pub found-is : readingOf l kinds .found ≡ (isLine l && bit kinds (frameOf l .kind))
+  unfolding readingOf
+  found-is = go (isLine l && bit kinds (frameOf l .kind))
+    where
+      go : (b : Bool) → cond b (record { found = true; frame = frameOf l }) nothing .found ≡ b
+      go true = refl
+      go false = refl
+
+  pub reading-line : isLine l ≡ true → bit kinds (frameOf l .kind) ≡ true → readingOf l kinds ≡ record { found = true; frame = frameOf l }
+  unfolding readingOf
+  reading-line p q = rw (p, q)
+
+  pub reading-none : readingOf l kinds .found ≡ false → readingOf l kinds ≡ nothing
+  unfolding readingOf
+  reading-none e = go (isLine l && bit kinds (frameOf l .kind)) (sym found-is ∙ e)
+    where
+      go : (b : Bool) → b ≡ false → cond b (record { found = true; frame = frameOf l }) nothing ≡ nothing
+      go true e = absurd (true≢false e)
+      go false e = refl
+
+  module _ (e : readingOf l kinds .found ≡ true) where
+    pub found-line : isLine l ≡ true
+    found-line = and-left (isLine l) (bit kinds (frameOf l .kind)) (sym found-is ∙ e)
+
+    pub found-taken : bit kinds (frameOf l .kind) ≡ true
+    found-taken = and-right (isLine l) (bit kinds (frameOf l .kind)) (sym found-is ∙ e)
+
+    pub found-frame : readingOf l kinds .frame ≡ frameOf l
+    found-frame = ap (λ (r : Reading). r .frame) (reading-line found-line found-taken)

@@ -1,0 +1,10 @@
+-- What the contracts of `frame` cite, and the laws of it.
+pub mod Hex
+pub mod Layout
+pub mod Kinds
+pub mod Format
+pub mod Leaves
+pub mod Tests
+pub mod HexLaws
+pub mod FormatLaws
+pub mod InverseLaws

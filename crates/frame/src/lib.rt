@@ -1,0 +1,365 @@
+// Frames: reading a line and writing one. A line is the digits of the header's fields and of the commands, and a line feed.
+ghost use mathlib.Core.Path.{_≡_};
+ghost use Prim.Native.Nat.{_+_, _*_, _≤_, _<_};
+ghost use mathlib.Core.List.{[]};
+ghost use lib.ListN.{length, getD};
+ghost use Rattle.frame.specs.Hex as hex;
+ghost use Rattle.frame.specs.Layout as layout;
+ghost use Rattle.frame.specs.Kinds as kinds;
+ghost use Rattle.frame.specs.Format as format;
+ghost use Rattle.frame.specs.Leaves as leaves;
+
+mod tables;
+
+use roster::Ballot;
+use roster::View;
+use tables::PAIRS;
+use tables::VALUES;
+
+// The longest line, with its line feed.
+pub const LONGEST: usize = 1061;
+
+// The longest line's length, which is what the layout says.
+pub fn longest() -> usize
+    ensures { λ r. ⌜ r ≡ layout.longest ⌝ }
+{
+    LONGEST
+}
+
+// A frame by value: the first n words are its first list of commands, the next m its second, and those after them are 0.
+pub struct Frame {
+    pub kind: u8,
+    pub sender: u8,
+    pub view: View,
+    pub ballot: Ballot,
+    pub proven: Ballot,
+    pub mask: u16,
+    pub n: u8,
+    pub m: u8,
+    pub words: [u64; 64],
+}
+
+// What reading finds: a frame, or none, and then the frame is all 0.
+pub struct Reading {
+    pub found: bool,
+    pub frame: Frame,
+}
+
+// A number that digits spell, if they are digits.
+struct Spelled {
+    good: bool,
+    value: u64,
+}
+
+// The widths of the header's fields: kind, sender, view, ballot, proven ballot, mask, n, m.
+const WIDTHS: [usize; 8] = [1, 1, 4, 4, 4, 2, 1, 1];
+
+// The words of the table of kinds.
+const YES: bool = true;
+
+const NO: bool = false;
+
+// Which of these fields each kind uses; 0 is no kind.
+const USES: [[bool; 8]; 11] = [
+    [NO, NO, NO, NO, NO, NO, NO, NO],
+    [YES, YES, YES, YES, NO, NO, NO, NO], // P1A
+    [YES, YES, YES, YES, NO, NO, NO, NO], // FAST
+    [YES, YES, NO, YES, YES, YES, YES, YES], // P1B
+    [YES, YES, NO, YES, NO, NO, YES, NO], // PROPOSE
+    [YES, YES, YES, YES, NO, NO, YES, NO], // P2A
+    [YES, YES, YES, YES, NO, NO, YES, NO], // VERIFY
+    [YES, YES, NO, YES, NO, YES, YES, NO], // P2B
+    [YES, YES, YES, NO, NO, NO, NO, NO], // SUSPICION
+    [YES, YES, YES, NO, NO, YES, NO, NO], // VIEWCHANGE
+    [YES, YES, YES, NO, NO, YES, NO, NO], // LEADER
+];
+
+// The digit that a character is; 256 for what is none.
+fn digit_of(c: u8) -> u16
+    ensures { λ r. ⌜ r ≡ leaves.digitIn c ⌝ }
+{
+    VALUES[c as usize]
+}
+
+// The byte of two digits; 256 or more where one is no digit.
+fn byte_of(a: u8, b: u8) -> u16
+    ensures { λ r. ⌜ r ≡ 16 * leaves.digitIn a + leaves.digitIn b ⌝ }
+{
+    16 * digit_of(a) + digit_of(b)
+}
+
+// The number of `width` bytes that digits spell.
+fn number(digits: &[u8], width: usize) -> Spelled
+    requires { ⌜ (width ≤ 8) × (length (now digits) ≡ 2 * width) ⌝ }
+    ensures { λ r. ⌜ r ≡ leaves.numberIn (now (digits .entry)) ⌝ }
+{
+    let mut x: u64 = 0;
+    let mut i: usize = 0;
+    while i < width {
+        let byte = byte_of(digits[2 * i], digits[2 * i + 1]);
+        if 256 <= byte {
+            return Spelled {
+                good: false,
+                value: 0,
+            };
+        }
+        x = 256 * x + byte as u64;
+        i += 1;
+    }
+    Spelled {
+        good: true,
+        value: x,
+    }
+}
+
+// The header's values; whether all characters are digits.
+fn read_header(digits: &[u8], head: &mut [u64]) -> bool
+    requires { ⌜ (length (now digits) ≡ 2 * hex.total layout.widths) × (length (now head) ≡ length layout.widths) ⌝ }
+    ensures { λ r. ⌜ leaves.NumbersIn layout.widths (now (digits .entry)) r (now (head .exit)) ⌝ }
+{
+    let mut at: usize = 0;
+    let mut k: usize = 0;
+    while k < 8 {
+        let width = WIDTHS[k];
+        let end = at + 2 * width;
+        let x = number(&digits[at..end], width);
+        if !x.good {
+            return false;
+        }
+        head[k] = x.value;
+        at = end;
+        k += 1;
+    }
+    true
+}
+
+// The commands; whether all characters are digits.
+fn read_words(digits: &[u8], words: &mut [u64]) -> bool
+    requires { ⌜ length (now digits) ≡ 16 * length (now words) ⌝ }
+    ensures { λ r. ⌜ leaves.NumbersIn (format.commands (length (now (words .entry)))) (now (digits .entry)) r (now (words .exit)) ⌝ }
+{
+    let mut k: usize = 0;
+    while k < words.len() {
+        let at = 16 * k;
+        let end = at + 16;
+        let x = number(&digits[at..end], 8);
+        if !x.good {
+            return false;
+        }
+        words[k] = x.value;
+        k += 1;
+    }
+    true
+}
+
+// Whether each field that the kind doesn't use is 0.
+fn unused_zero(kind: usize, head: &[u64]) -> bool
+    requires { ⌜ (kind < 11) × (length (now head) ≡ 8) ⌝ }
+    ensures { λ r. ⌜ r ≡ kinds.zeroUnless (getD kinds.uses kind []) (now (head .entry)) ⌝ }
+{
+    let mut k: usize = 0;
+    while k < 8 {
+        let fine = USES[kind][k] | (head[k] == 0);
+        if !fine {
+            return false;
+        }
+        k += 1;
+    }
+    true
+}
+
+// Whether a header's values are proper: the kind, the counts, and the fields that the kind doesn't use.
+fn proper(head: &[u64]) -> bool
+    requires { ⌜ length (now head) ≡ 8 ⌝ }
+    ensures { λ r. ⌜ r ≡ leaves.properHeader (now (head .entry)) ⌝ }
+{
+    let kind = head[0];
+    let known = (1 <= kind) & (kind < 11);
+    if !known {
+        return false;
+    }
+    let few = (head[6] <= 32) & (head[7] <= 32);
+    if !few {
+        return false;
+    }
+    unused_zero(kind as usize, head)
+}
+
+// Whether all words are 0.
+fn all_zero(words: &[u64]) -> bool
+    ensures { λ r. ⌜ r ≡ format.allZero (now (words .entry)) ⌝ }
+{
+    let mut i: usize = 0;
+    while i < words.len() {
+        if words[i] != 0 {
+            return false;
+        }
+        i += 1;
+    }
+    true
+}
+
+// The two characters of a byte: the first, and the second times 256.
+fn pair_of(byte: u64) -> u16
+    requires { ⌜ byte < 256 ⌝ }
+    ensures { λ r. ⌜ r ≡ leaves.pair byte ⌝ }
+{
+    PAIRS[byte as usize]
+}
+
+// Writes a number of `width` bytes as digits, the last byte first.
+fn write_number(digits: &mut [u8], width: usize, number: u64)
+    requires { ⌜ length (now digits) ≡ 2 * width ⌝ }
+    ensures { λ r. ⌜ now (digits .exit) ≡ hex.digitsOf width number ⌝ }
+{
+    let mut x = number;
+    let mut k = width;
+    while 0 < k {
+        k -= 1;
+        let pair = pair_of(x % 256);
+        digits[2 * k] = (pair % 256) as u8;
+        digits[2 * k + 1] = (pair / 256) as u8;
+        x /= 256;
+    }
+}
+
+// Writes the header's values.
+fn write_header(digits: &mut [u8], head: &[u64])
+    requires { ⌜ (length (now digits) ≡ 2 * hex.total layout.widths) × (length (now head) ≡ length layout.widths) ⌝ }
+    ensures { λ r. ⌜ now (digits .exit) ≡ hex.spell layout.widths (now (head .entry)) ⌝ }
+{
+    let mut at: usize = 0;
+    let mut k: usize = 0;
+    while k < 8 {
+        let width = WIDTHS[k];
+        let end = at + 2 * width;
+        write_number(&mut digits[at..end], width, head[k]);
+        at = end;
+        k += 1;
+    }
+}
+
+// Writes the commands.
+fn write_words(digits: &mut [u8], words: &[u64])
+    requires { ⌜ length (now digits) ≡ 16 * length (now words) ⌝ }
+    ensures { λ r. ⌜ now (digits .exit) ≡ hex.spell (format.commands (length (now (words .entry)))) (now (words .entry)) ⌝ }
+{
+    let mut k: usize = 0;
+    while k < words.len() {
+        let at = 16 * k;
+        let end = at + 16;
+        write_number(&mut digits[at..end], 8, words[k]);
+        k += 1;
+    }
+}
+
+// What is read where there is no frame.
+fn nothing() -> Reading
+    ensures { λ r. ⌜ r ≡ format.nothing ⌝ }
+{
+    Reading {
+        found: false,
+        frame: Frame {
+            kind: 0,
+            sender: 0,
+            view: View(0),
+            ballot: Ballot(0),
+            proven: Ballot(0),
+            mask: 0,
+            n: 0,
+            m: 0,
+            words: [0u64; 64],
+        },
+    }
+}
+
+// The frame of a line whose header was read and is proper.
+fn read_body(line: &[u8], head: [u64; 8]) -> Reading
+    requires { ⌜ leaves.Headed (now line) head ⌝ }
+    ensures { λ r. ⌜ r ≡ leaves.bodyReading (now (line .entry)) ⌝ }
+{
+    let count = head[6] as usize + head[7] as usize;
+    let end = 36 + 16 * count;
+    if line.len() != end + 1 {
+        return nothing();
+    }
+    if line[end] != 10 {
+        return nothing();
+    }
+    let mut words = [0u64; 64];
+    let good = read_words(&line[36..end], &mut words[..count]);
+    if !good {
+        return nothing();
+    }
+    Reading {
+        found: true,
+        frame: Frame {
+            kind: head[0] as u8,
+            sender: head[1] as u8,
+            view: View(head[2] as u32),
+            ballot: Ballot(head[3] as u32),
+            proven: Ballot(head[4] as u32),
+            mask: head[5] as u16,
+            n: head[6] as u8,
+            m: head[7] as u8,
+            words,
+        },
+    }
+}
+
+// The frame of a line, if these characters are a line, of one of the kinds (kind k is bit k).
+pub fn read(line: &[u8], kinds: u16) -> Reading
+    ensures { λ r. ⌜ r ≡ format.readingOf (now (line .entry)) kinds ⌝ }
+{
+    if line.len() < 37 {
+        return nothing();
+    }
+    let mut head = [0u64; 8];
+    let good = read_header(&line[..36], &mut head);
+    if !good {
+        return nothing();
+    }
+    let fine = proper(&head);
+    if !fine {
+        return nothing();
+    }
+    let taken = roster::contains(kinds, head[0] as u8);
+    if !taken {
+        return nothing();
+    }
+    read_body(line, head)
+}
+
+// Writes the frame's line at the front of `out` and answers its length; 0, and nothing is written, where it has no line or there is no room.
+pub fn write(frame: Frame, out: &mut [u8]) -> usize
+    ensures { λ r. ⌜ (r ≡ format.writtenLength frame (now (out .entry))) × (now (out .exit) ≡ format.written frame (now (out .entry))) ⌝ }
+{
+    let head = [
+        frame.kind as u64,
+        frame.sender as u64,
+        frame.view.0 as u64,
+        frame.ballot.0 as u64,
+        frame.proven.0 as u64,
+        frame.mask as u64,
+        frame.n as u64,
+        frame.m as u64,
+    ];
+    let fine = proper(&head);
+    if !fine {
+        return 0;
+    }
+    let count = frame.n as usize + frame.m as usize;
+    let words: &[u64] = &frame.words;
+    let clear = all_zero(&words[count..]);
+    if !clear {
+        return 0;
+    }
+    let end = 36 + 16 * count;
+    if out.len() <= end {
+        return 0;
+    }
+    write_header(&mut out[..36], &head);
+    write_words(&mut out[36..end], &words[..count]);
+    out[end] = 10;
+    end + 1
+}

@@ -1,0 +1,4 @@
+pub mod Learner
+pub mod StepLaws
+pub mod Run
+pub mod RunLaws

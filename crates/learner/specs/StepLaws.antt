@@ -1,0 +1,363 @@
+-- One step of the learner: what holds of an accepted vote, and what the state keeps.
+use mathlib.Core.Path.{_≡_, refl, sym, ap, _∙_, subst}
+use mathlib.Core.Logic.{_⊎_, inl, inr, ⊎-elim}
+use mathlib.Core.Bool.{Bool, true, false, not, cond, _&&_, _||_, Bool·beq, true≢false}
+use mathlib.Core.List.{List, [], _∷_}
+use Prim.Native.Nat.{ℕ, _≤_, _<_}
+use native.Mathlib.Omega.{arith}
+use native.Mathlib.Decide.{ℕ-discrete}
+use borrow.Author.Tests.{le-leb, leb-false, leb-true, not-true, not-false, eqb-false, ne-eqb}
+use lib.Dec.{leb, eqb, lit<}
+use lib.ListN.{length, take, length-take}
+use Rattle.roster.specs.declared.Roster.{Roster}
+use Rattle.roster.specs.Roster.{validRoster, quorum}
+use Rattle.roster.specs.RosterLaws.{Figures, valid-figures}
+use Rattle.roster.specs.Mask.{bit}
+use Rattle.roster.specs.MaskLaws.{bit-out}
+use Rattle.roster.specs.Sites.{countTo, allTo}
+use Rattle.roster.specs.SitesLaws.{true-or-false, all-each, lt-or-le}
+use Rattle.command.specs.Command.{allValid}
+use Rattle.command.specs.CommandLaws.{and-left, and-right}
+use Rattle.history.specs.History.{Extends, repeated, isCanonical, extends, validHistory}
+use Rattle.history.specs.ExtensionLaws.{extends-refl, extends-sound}
+use Rattle.history.specs.ValidLaws.{ValidHistory, valid-parts, parts-valid}
+use Rattle.history.specs.Words.{limit, commands, stored, validStored}
+use Rattle.history.specs.WordsLaws.{commands-stored, stored-valid, valid-stored-history, valid-stored-length}
+use Rattle.merge.specs.declared.Merged.{Merged}
+use Rattle.merge.specs.Merged.{merged}
+use Rattle.merge.specs.MergeLaws.{is-merge-valid}
+use Rattle.merge.specs.MergedLaws.{Answers, is-split, is-full, is-found, merged-answers}
+use Rattle.table.specs.declared.Table.{Table}
+use Rattle.table.specs.Table.{sites, rowOf, storedAt, validTable}
+use Rattle.table.specs.TableLaws.{Sized, stored-sized, row-stored, row-stored-other}
+use Rattle.table.specs.ValidLaws.{valid-stored}
+use Rattle.refusal.specs.declared.Refusal.{Refusal}
+use Rattle.refusal.specs.declared.Refusal.the-variants.{Config}
+use Rattle.refusal.specs.Rules.{judged}
+use Rattle.refusal.specs.JudgedLaws.{GivenFirst, NoneHolds, passed, pass, Judgement, refused, accepts, judgement, rising}
+use Rattle.frame.specs.declared.Frame.{Frame}
+use Rattle.frame.specs.declared.Reading.{Reading}
+use Rattle.frame.specs.Format.{readingOf, isLine, frameOf, malformed}
+use Rattle.frame.specs.FormatLaws.{found-is, reading-line, line-is, proper-n}
+use Rattle.learner.specs.declared.State.{State}
+use Rattle.learner.specs.declared.Outcome.{Outcome}
+use Rattle.learner.specs.Learner.{
+  config,
+  taken,
+  form,
+  vote,
+  arrived,
+  sender,
+  stale,
+  proof,
+  wrong,
+  improper,
+  contradicts,
+  counted,
+  supporters,
+  claimed,
+  union,
+  splits,
+  overflows,
+  after,
+  accepted,
+  refuse,
+  rules,
+  step,
+}
+
+-- ---- the outcome of a step
+
+-- an accepted vote: no check applies
+pub record Accepts (r : Roster) (s : State) (line : List ℕ) : Type 0 where
+  pub configured : config r s ≡ false
+  pub framed : form line ≡ false
+  pub from-site : sender r (vote line) ≡ false
+  pub balloted : stale (vote line) ≡ false
+  pub proven : proof r (vote line) ≡ false
+  pub right : wrong (arrived (vote line)) ≡ false
+  pub proper : improper (arrived (vote line)) ≡ false
+  pub agrees : contradicts (rowOf (s .entries) (vote line .sender)) (arrived (vote line)) ≡ false
+  pub joins : splits r (counted (s .entries) (vote line .sender) (arrived (vote line))) s (arrived (vote line)) ≡ false
+  pub fits : overflows r (counted (s .entries) (vote line .sender) (arrived (vote line))) s (arrived (vote line)) ≡ false
+  pub outcome : step r s line ≡ accepted r s (vote line .sender) (arrived (vote line))
+
+pub data Stepped (r : Roster) (s : State) (line : List ℕ) : Type 0 where
+  refuses : (e : Refusal) → GivenFirst e (rules r s line) → step r s line ≡ refuse s e → Stepped r s line
+  accepting : Accepts r s line → Stepped r s line
+
+pub stepped : (r : Roster) (s : State) (line : List ℕ) → Stepped r s line
+unfolding step
+stepped r s line = go (judgement (refuse s) (accepted r s (vote line .sender) (arrived (vote line))) (rules r s line))
+  where
+    none : NoneHolds (rules r s line) → step r s line ≡ accepted r s (vote line .sender) (arrived (vote line)) → Accepts r s line
+    none (pass a (pass b (pass c (pass d (pass e (pass f (pass g (pass h (pass i (pass j passed)))))))))) o =
+        record {
+          configured = a;
+          framed = b;
+          from-site = c;
+          balloted = d;
+          proven = e;
+          right = f;
+          proper = g;
+          agrees = h;
+          joins = i;
+          fits = j;
+          outcome = o;
+        }
+
+    go : Judgement (refuse s) (accepted r s (vote line .sender) (arrived (vote line))) (rules r s line) → Stepped r s line
+    go (refused e g o) = refuses e g o
+    go (accepts n o) = accepting (none n o)
+
+-- "Checks run in this order": the numbers of the rules rise
+pub rules-rise : (r : Roster) (s : State) (line : List ℕ) → rising 0 (rules r s line) ≡ true
+unfolding rising
+rules-rise r s line = refl
+
+-- ---- what the learner keeps
+
+-- a state of the right sizes that passes CONFIG
+pub record Sound (r : Roster) (s : State) : Type 0 where
+  pub sized : Sized (s .entries)
+  pub roster : validRoster r ≡ true
+  pub entries : validTable (r .n) (s .entries) ≡ true
+  pub learned : validStored (s .learned) ≡ true
+
+pub sound-config : {r : Roster} {s : State} → Sound r s → config r s ≡ false
+unfolding config
+sound-config p = rw (p .roster, p .entries, p .learned)
+
+pub config-sound : {r : Roster} {s : State} → Sized (s .entries) → config r s ≡ false → Sound r s
+unfolding config
+config-sound {r} {s} z e =
+    let whole = not-false (validRoster r && (validTable (r .n) (s .entries) && validStored (s .learned))) e in
+    let rest = and-right (validRoster r) _ whole in
+    record {
+      sized = z;
+      roster = and-left (validRoster r) _ whole;
+      entries = and-left (validTable (r .n) (s .entries)) _ rest;
+      learned = and-right (validTable (r .n) (s .entries)) _ rest;
+    }
+
+-- a roster outside the figures is CONFIG in any state, and CONFIG comes before all else
+pub roster-config : (r : Roster) (s : State) → validRoster r ≡ false → config r s ≡ true
+unfolding config
+roster-config r s e = rw e
+
+pub step-config : (r : Roster) (s : State) (line : List ℕ) → config r s ≡ true → step r s line ≡ refuse s Config
+unfolding step judged
+step-config r s line e = rw e
+
+-- the learner takes P2B, kind 7, and no other
+only-p2b : allTo 8 (λ k. Bool·beq (bit taken k) (eqb k 7)) ≡ true
+unfolding allTo bit
+only-p2b = refl
+
+same-bool : (a b : Bool) → Bool·beq a b ≡ true → a ≡ b
+same-bool true true e = refl
+same-bool true false e = sym e
+same-bool false true e = e
+same-bool false false e = refl
+
+pub taken-is : (k : ℕ) → bit taken k ≡ eqb k 7
+taken-is k =
+    ⊎-elim (λ p. same-bool (bit taken k) (eqb k 7) (all-each 8 (λ i. Bool·beq (bit taken i) (eqb i 7)) only-p2b k p))
+    (λ (p : 8 ≤ k). bit-out taken 8 k (lit< tt) p ∙ sym (ne-eqb k 7 (λ e. omega arith)))
+    (lt-or-le k 8)
+
+-- what the checks say of the arrived history
+or-left : (a b : Bool) → (a || b) ≡ false → a ≡ false
+or-left true b e = e
+or-left false b e = refl
+
+or-right : (a b : Bool) → (a || b) ≡ false → b ≡ false
+or-right true b e = absurd (true≢false e)
+or-right false b e = e
+
+-- a line that FORM lets pass is a frame's, so its n is at most 32
+vote-line : (line : List ℕ) → form line ≡ false → isLine line ≡ true
+unfolding malformed
+vote-line line e = and-left (isLine line) _ (sym (found-is line taken) ∙ not-false (readingOf line taken .found) e)
+
+vote-frame : (line : List ℕ) → form line ≡ false → vote line ≡ frameOf line
+unfolding malformed
+vote-frame line e =
+    let whole = sym (found-is line taken) ∙ not-false (readingOf line taken .found) e in
+    ap (λ (x : Reading). x .frame) (reading-line line taken (and-left (isLine line) _ whole) (and-right (isLine line) _ whole))
+
+vote-count : (line : List ℕ) → form line ≡ false → vote line .n ≤ limit
+vote-count line e = rw (vote-frame line e) (proper-n (frameOf line) (line-is line (vote-line line e) .values-proper))
+
+-- the arrived history of an accepted vote
+pub record Arrived (h : List ℕ) : Type 0 where
+  pub valid : ValidHistory h
+  pub some-command : 0 < length h
+  pub short : length h ≤ limit
+
+positive : (n : ℕ) → (n ≡ 0 → ⊥) → 0 < n
+positive n f = omega (arith, f)
+
+pub arrived-is : {r : Roster} {s : State} {line : List ℕ} → Accepts r s line → Arrived (arrived (vote line))
+unfolding wrong improper
+arrived-is {line = line} a =
+    let h = arrived (vote line) in
+    let rest = or-right (repeated h) _ (a .proper) in
+    record {
+      valid = record { commands = not-false (allValid h) (a .right); distinct = or-left (repeated h) _ (a .proper); in-order = not-false (isCanonical h) (or-left (not (isCanonical h)) _ rest) };
+      some-command = positive (length h) (eqb-false (length h) 0 (or-right (not (isCanonical h)) _ rest));
+      short = rw length-take (omega (arith, vote-count line (a .framed)));
+    }
+
+pub sender-below : {r : Roster} {s : State} {line : List ℕ} → Accepts r s line → vote line .sender < r .n
+unfolding sender
+sender-below {r} {line = line} a = leb-false (r .n) (vote line .sender) (a .from-site)
+
+-- ---- the entries
+
+-- where a history is stored, and where the entry stays
+counted-stored : (t : Table) (site : ℕ) (h : List ℕ) → extends h (rowOf t site) ≡ true → counted t site h ≡ storedAt t site h
+unfolding counted
+counted-stored t site h e = rw e
+
+counted-stays : (t : Table) (site : ℕ) (h : List ℕ) → extends h (rowOf t site) ≡ false → counted t site h ≡ t
+unfolding counted
+counted-stays t site h e = rw e
+
+module _ {t : Table} (z : Sized t) (site : ℕ) (h : List ℕ) (inside : site < sites) (short : length h ≤ limit) where
+  -- the sender's entry then extends the arrived history
+  pub counted-entered : contradicts (rowOf t site) h ≡ false → Extends (rowOf (counted t site h) site) h
+  unfolding contradicts
+  counted-entered e =
+      ⊎-elim (λ p. rw (counted-stored t site h p, row-stored z site h inside short) (extends-refl h))
+      (λ p. rw (counted-stays t site h p) (extends-sound (rowOf t site) h (not-false (extends (rowOf t site) h) (rw p at e))))
+      (true-or-false (extends h (rowOf t site)))
+
+  -- each entry then extends what it was
+  pub counted-grows : (i : ℕ) → Extends (rowOf (counted t site h) i) (rowOf t i)
+  counted-grows i =
+      ⊎-elim (λ p. rw (counted-stored t site h p) (stored-grows p (ℕ-discrete i site)))
+      (λ p. rw (counted-stays t site h p) (extends-refl (rowOf t i)))
+      (true-or-false (extends h (rowOf t site)))
+    where
+      stored-grows : extends h (rowOf t site) ≡ true → Dec (i ≡ site) → Extends (rowOf (storedAt t site h) i) (rowOf t i)
+      stored-grows p (yes e) = rw (e, row-stored z site h inside short) (extends-sound h (rowOf t site) p)
+      stored-grows p (no n) = rw (row-stored-other t site h i n) (extends-refl (rowOf t i))
+
+  pub counted-sized : Sized (counted t site h)
+  counted-sized =
+      ⊎-elim (λ p. rw (counted-stored t site h p) (stored-sized z site h)) (λ p. rw (counted-stays t site h p) z) (true-or-false (extends h (rowOf t site)))
+
+  pub counted-valid : (n : ℕ) → validTable n t ≡ true → site < n → validHistory h ≡ true → validTable n (counted t site h) ≡ true
+  counted-valid n v q w =
+      ⊎-elim (λ p. rw (counted-stored t site h p) (valid-stored n t site h v q w)) (λ p. rw (counted-stays t site h p) v)
+      (true-or-false (extends h (rowOf t site)))
+
+-- ---- what is learned
+
+-- what an accepted vote that the learner merges leaves: the merge, which extends what was learned and the arrived history
+record Learned (g h : List ℕ) (m : Merged) : Type 0 where
+  grown : Extends (commands (m .history)) g
+  holds : Extends (commands (m .history)) h
+  valid : validStored (m .history) ≡ true
+
+learned-merge : (g h : List ℕ) → ValidHistory g → length g ≤ limit → Arrived h → merged limit g h .split ≡ false → merged limit g h .full ≡ false
+    → Learned g h (merged limit g h)
+learned-merge g h p q a x y = go (merged-answers limit g h q (a .short) (a .valid .distinct))
+  where
+    go : Answers limit g h → Learned g h (merged limit g h)
+    go (is-split e n) = absurd (true≢false (sym (ap (λ (m : Merged). m .split) e) ∙ x))
+    go (is-full e m n) = absurd (true≢false (sym (ap (λ (m : Merged). m .full) e) ∙ y))
+    go (is-found {m = m} e k n) =
+        rw e
+        (record {
+          grown = rw (commands-stored m n) (k .common .left);
+          holds = rw (commands-stored m n) (k .common .right);
+          valid = stored-valid m n (parts-valid (is-merge-valid p (a .valid) k));
+        })
+
+-- the state after an accepted vote, of which t are the entries
+module _ (r : Roster) (t : Table) (s : State) (h : List ℕ) (p : validStored (s .learned) ≡ true) (a : Arrived h)
+    (x : splits r t s h ≡ false) (y : overflows r t s h ≡ false) where
+  merging : claimed r t h ≡ true → Learned (commands (s .learned)) h (union s h)
+  unfolding splits overflows
+  merging e =
+      learned-merge (commands (s .learned)) h (valid-parts (commands (s .learned)) (valid-stored-history (s .learned) p)) (valid-stored-length (s .learned) p) a
+      (rw e at x) (rw e at y)
+
+  merged-state : claimed r t h ≡ true → after r t s h .learned ≡ union s h .history
+  unfolding after
+  merged-state e = rw e
+
+  same-state : claimed r t h ≡ false → after r t s h .learned ≡ s .learned
+  unfolding after
+  same-state e = rw e
+
+  pub after-grows : Extends (commands (after r t s h .learned)) (commands (s .learned))
+  after-grows =
+      ⊎-elim (λ e. rw (merged-state e) (merging e .grown)) (λ e. rw (same-state e) (extends-refl (commands (s .learned)))) (true-or-false (claimed r t h))
+
+  pub after-holds : claimed r t h ≡ true → Extends (commands (after r t s h .learned)) h
+  after-holds e = rw (merged-state e) (merging e .holds)
+
+  pub after-valid : validStored (after r t s h .learned) ≡ true
+  after-valid = ⊎-elim (λ e. rw (merged-state e) (merging e .valid)) (λ e. rw (same-state e) p) (true-or-false (claimed r t h))
+
+-- ---- one step
+
+-- what a step keeps and adds
+pub record Advance (r : Roster) (s next : State) : Type 0 where
+  pub sound : Sound r next
+  pub entries-grow : (i : ℕ) → Extends (rowOf (next .entries) i) (rowOf (s .entries) i)
+  pub learned-grows : Extends (commands (next .learned)) (commands (s .learned))
+
+after-entries : (r : Roster) (t : Table) (s : State) (h : List ℕ) → after r t s h .entries ≡ t
+unfolding after
+after-entries r t s h = refl
+
+module _ {r : Roster} {s : State} (p : Sound r s) {line : List ℕ} (a : Accepts r s line) where
+  in-table : vote line .sender < sites
+  in-table = omega (arith, sender-below a, valid-figures r (p .roster) .max-sites)
+
+  accepted-advance : Advance r s (after r (counted (s .entries) (vote line .sender) (arrived (vote line))) s (arrived (vote line)))
+  accepted-advance =
+      let h = arrived (vote line) in
+      let site = vote line .sender in
+      let t = counted (s .entries) site h in
+      let v = arrived-is a in
+      record {
+        sound = record {
+          sized = rw (after-entries r t s h) (counted-sized (p .sized) site h in-table (v .short));
+          roster = p .roster;
+          entries = rw (after-entries r t s h) (counted-valid (p .sized) site h in-table (v .short) (r .n) (p .entries) (sender-below a) (parts-valid (v .valid)));
+          learned = after-valid r t s h (p .learned) v (a .joins) (a .fits);
+        };
+        entries-grow = λ i. rw (after-entries r t s h) (counted-grows (p .sized) site h in-table (v .short) i);
+        learned-grows = after-grows r t s h (p .learned) v (a .joins) (a .fits);
+      }
+
+  -- an accepted vote leaves its site's entry extending it
+  pub vote-entered : Extends (rowOf (step r s line .state .entries) (vote line .sender)) (arrived (vote line))
+  vote-entered =
+      rw (a .outcome, after-entries r (counted (s .entries) (vote line .sender) (arrived (vote line))) s (arrived (vote line)))
+      (counted-entered (p .sized) (vote line .sender) (arrived (vote line)) in-table (arrived-is a .short) (a .agrees))
+
+  -- where the entries of N-f sites then extend it, what is learned does
+  pub vote-learned : quorum r ≤ countTo (r .n) (λ i. extends (rowOf (step r s line .state .entries) i) (arrived (vote line)))
+      → Extends (commands (step r s line .state .learned)) (arrived (vote line))
+  unfolding claimed supporters
+  vote-learned q =
+      let h = arrived (vote line) in
+      let t = counted (s .entries) (vote line .sender) h in
+      rw (a .outcome)
+      (after-holds r t s h (p .learned) (arrived-is a) (a .joins) (a .fits) (le-leb (quorum r) _ (rw (a .outcome, after-entries r t s h) at q)))
+
+pub step-advance : {r : Roster} {s : State} → Sound r s → (line : List ℕ) → Advance r s (step r s line .state)
+step-advance {r} {s} p line = go (stepped r s line)
+  where
+    still : Advance r s s
+    still = record { sound = p; entries-grow = λ i. extends-refl (rowOf (s .entries) i); learned-grows = extends-refl (commands (s .learned)) }
+
+    go : Stepped r s line → Advance r s (step r s line .state)
+    go (refuses e g o) = rw o still
+    go (accepting a) = rw (a .outcome) (accepted-advance p a)

@@ -1,0 +1,5 @@
+-- What the contracts of `refusal` cite, and the laws of it.
+pub mod Refusal
+pub mod Rules
+pub mod RulesLaws
+pub mod JudgedLaws

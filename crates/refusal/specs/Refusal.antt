@@ -1,0 +1,34 @@
+-- The refusals and their numbers.
+use Prim.Native.Nat.{ℕ}
+use Rattle.refusal.specs.declared.Refusal.{Refusal}
+use Rattle.refusal.specs.declared.Refusal.the-variants.{
+  Config,
+  Form,
+  Sender,
+  Stale,
+  Proof,
+  Command,
+  History,
+  Behind,
+  Reused,
+  Contradiction,
+  Split,
+  Nothing,
+  Full,
+}
+
+-- "Each returns its number only." The columns No. and Name of the table of refusals.
+abbrev pub number : Refusal → ℕ
+number Config = 1
+number Form = 2
+number Sender = 3
+number Stale = 4
+number Proof = 5
+number Command = 6
+number History = 7
+number Behind = 8
+number Reused = 9
+number Contradiction = 10
+number Split = 11
+number Nothing = 12
+number Full = 13

@@ -1,0 +1,41 @@
+// The refusals, with the number that each returns.
+ghost use mathlib.Core.Path.{_≡_};
+ghost use Rattle.refusal.specs.Refusal as spec;
+
+// The refusals, in the order of their numbers.
+pub enum Refusal {
+    Config,
+    Form,
+    Sender,
+    Stale,
+    Proof,
+    Command,
+    History,
+    Behind,
+    Reused,
+    Contradiction,
+    Split,
+    Nothing,
+    Full,
+}
+
+// The number of a refusal. An accepted frame answers 0, which is the number of none.
+pub fn number(r: Refusal) -> u8
+    ensures { λ n. ⌜ n ≡ spec.number r ⌝ }
+{
+    match r {
+        Refusal::Config => 1,
+        Refusal::Form => 2,
+        Refusal::Sender => 3,
+        Refusal::Stale => 4,
+        Refusal::Proof => 5,
+        Refusal::Command => 6,
+        Refusal::History => 7,
+        Refusal::Behind => 8,
+        Refusal::Reused => 9,
+        Refusal::Contradiction => 10,
+        Refusal::Split => 11,
+        Refusal::Nothing => 12,
+        Refusal::Full => 13,
+    }
+}

@@ -1,0 +1,20 @@
+-- `speckleewe::learner_step` meets its contract: the step's outcome, with its answer's number.
+-- Assumes nothing.
+use mathlib.Core.Path.{_≡_, ap, _∙_}
+use borrow.Author.Needs.{needs}
+use Rattle.speckleewe.specs.declared.LearnerOutcome.{LearnerOutcome}
+use Rattle.speckleewe.specs.Outcomes.{learnerOutcome}
+use Rattle.speckleewe.proofs.learner_step.Statement.{statement}
+use Rattle.speckleewe.proofs.learner_step.Tie as tie
+
+step-requires : tie.Need-step-requires
+step-requires c κs = search needs
+
+number-requires : tie.Need-number-requires
+number-requires c κs = search needs
+
+returns : tie.Need-returns
+returns c = (λ i. record { answer = c .number .ensures i; supporters = c .before .before .step .result .supporters; state = c .before .before .step .result .state }) ∙ ap learnerOutcome (c .before .before .step .ensures)
+
+pub learner-step-spec : {M : Type 1} → statement M
+learner-step-spec = tie.close (tie.spec step-requires number-requires returns)
