@@ -1,7 +1,7 @@
 # make demo   runs the sample program and shows what it prints
-# make test   proves every crate from nothing, tries the must-fail edits, and runs each program and compares what it writes
+# make test   proves every crate from nothing, tries the must-fail edits, runs each program, and compares the learner with a model in Rust
 test:
-	@rt ci
+	@tests/run.sh
 
 demo:
 	@rt check samples >/dev/null

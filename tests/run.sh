@@ -1,0 +1,13 @@
+#!/usr/bin/env bash
+# All tests: first `rt ci`, which proves every crate from nothing, tries the wrong programs and runs each program; then the tests in other
+# languages, over what was proved. The last line is that of `rt ci`; the exit status is 0 only if everything passed.
+set -euo pipefail
+cd "$(dirname "$0")/.."
+log=$(mktemp)
+trap 'rm -f "$log"' EXIT
+rt ci | tee "$log"
+last=$(tail -n 1 "$log")
+rt staticlib speckleewe >/dev/null
+tests/model/run.sh target/staticlib/libspeckleewe.a --self
+tests/model/run.sh target/staticlib/libspeckleewe.a
+echo "$last"
