@@ -1,10 +1,13 @@
-# make demo   runs the sample program and shows what it prints
-# make test   proves every crate from nothing, tries the must-fail edits, runs each program, and compares the learner with a model in Rust
+# make demo    builds the program `learn`, runs it on sample votes and shows what each answer means
+# make test    proves every crate from nothing, tries the must-fail edits, runs each program, and compares the learner with a model in Rust
+# make bench   times the frame reader and writer, and `learn`, beside plain C
+demo:
+	@demo/run.sh
+
 test:
 	@tests/run.sh
 
-demo:
-	@rt check samples >/dev/null
-	@target/bin/samples
+bench:
+	@bench/run.sh
 
-.PHONY: test demo
+.PHONY: demo test bench

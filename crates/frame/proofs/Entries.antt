@@ -1,16 +1,33 @@
--- A table is the list of what its rule gives at each place: where a table is asked for, that is computed, at all entries at once.
+-- An entry of a table is what its rule gives there. That a table of the code is the list of what its rule gives is computed, at all entries at once.
 use Prim.Native.Nat.{ℕ, zero, suc, _<_}
 use native.Mathlib.Nat.{not-suc-le-zero, le-of-suc-le-suc}
-use mathlib.Core.Path.{_≡_, refl}
-use mathlib.Core.List.{List, [], _∷_}
-use lib.ListN.{getD}
+use mathlib.Core.Path.{_≡_, refl, ap, _∙_}
+use mathlib.Core.List.{List}
+use lib.ListN.{length, getD}
+use Rattle.frame.specs.Leaves.{digitIn, pair, tabled, values, pairs}
 
--- what the rule gives at each of the first n places
-abbrev pub tabled : ℕ → (ℕ → ℕ) → List ℕ
-tabled zero rule = []
-tabled (suc n) rule = rule 0 ∷ tabled n (λ k. rule (suc k))
-
-pub entry : (n : ℕ) (rule : ℕ → ℕ) (k : ℕ) → k < n → getD (tabled n rule) k 0 ≡ rule k
+entry : (n : ℕ) (rule : ℕ → ℕ) (k : ℕ) → k < n → getD (tabled n rule) k 0 ≡ rule k
 entry zero rule k h = absurd (not-suc-le-zero h)
 entry (suc n) rule zero h = refl
 entry (suc n) rule (suc k) h = entry n (λ k. rule (suc k)) k (le-of-suc-le-suc h)
+
+tabled-length : (n : ℕ) (rule : ℕ → ℕ) → length (tabled n rule) ≡ n
+tabled-length zero rule = refl
+tabled-length (suc n) rule = ap suc (tabled-length n (λ k. rule (suc k)))
+
+module _ (t : List ℕ) where
+  pub value-at : t ≡ values → (c : ℕ) → c < 256 → getD t c 0 ≡ digitIn c
+  unfolding values
+  value-at e c h = ap (λ (l : List ℕ). getD l c 0) e ∙ entry 256 digitIn c h
+
+  pub values-length : t ≡ values → length t ≡ 256
+  unfolding values
+  values-length e = ap length e ∙ tabled-length 256 digitIn
+
+  pub pair-at : t ≡ pairs → (b : ℕ) → b < 256 → getD t b 0 ≡ pair b
+  unfolding pairs
+  pair-at e b h = ap (λ (l : List ℕ). getD l b 0) e ∙ entry 256 pair b h
+
+  pub pairs-length : t ≡ pairs → length t ≡ 256
+  unfolding pairs
+  pairs-length e = ap length e ∙ tabled-length 256 pair

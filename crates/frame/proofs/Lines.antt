@@ -71,7 +71,7 @@ module _ (l h : List ℕ) (inv : Headed l h) where
   -- each fits its width
   pub head-fits : (k : ℕ) → k < 8 → getD h k 0 < 256 ^ getD widths k 0
   unfolding total
-  head-fits k p = subst (λ (xs : List ℕ). getD xs k 0 < 256 ^ getD widths k 0) (sym (inv .values)) (header-fits l (inv .long) (inv .spelled) k p)
+  head-fits k p = subst (λ (xs : List ℕ). getD xs k 0 < 256 ^ getD widths k 0) (sym (inv .spelled-values)) (header-fits l (inv .long) (inv .spelled) k p)
 
   counts : (leb (getD h 6 0) limit && leb (getD h 7 0) limit) ≡ true
   unfolding properHeader
@@ -95,7 +95,7 @@ module _ (l h : List ℕ) (inv : Headed l h) where
 
   held-is : count (frameOf l) ≡ held
   unfolding held frameOf framed
-  held-is = ap (λ (xs : List ℕ). getD xs 6 0 + getD xs 7 0) (sym (inv .values))
+  held-is = ap (λ (xs : List ℕ). getD xs 6 0 + getD xs 7 0) (sym (inv .spelled-values))
 
   size-is : lineLength (count (frameOf l)) ≡ 36 + 16 * held + 1
   unfolding total
@@ -162,7 +162,7 @@ module _ (l h : List ℕ) (inv : Headed l h) where
         unfolding frameOf framed zeros total
         words-are g =
             let k = getD h 6 0 + getD h 7 0 in
-            let same : n ≡ count (frameOf l) = e ∙ ap (λ (xs : List ℕ). getD xs 6 0 + getD xs 7 0) (inv .values) in
+            let same : n ≡ count (frameOf l) = e ∙ ap (λ (xs : List ℕ). getD xs 6 0 + getD xs 7 0) (inv .spelled-values) in
             let read : ys ≡ numbers (commands (count (frameOf l))) (drop 36 l) =
             r .are g ∙ numbers-take (commands n) (drop 36 l) (36 + 16 * k - 36) (omega (arith, total-commands n))
             ∙ ap (λ (m : ℕ). numbers (commands m) (drop 36 l)) same in
@@ -173,7 +173,7 @@ module _ (l h : List ℕ) (inv : Headed l h) where
         pub body-found : good ≡ true → _≡_ {A = Reading} (record { found = true; frame = withValues h (ys ++ drop (getD h 6 0 + getD h 7 0) (replicate 64 0)) }) (bodyReading l)
         unfolding bodyReading frameOf framed zeros last held
         body-found g =
-            ap (λ (f : Frame). record { found = true; frame = f }) (ap₂ withValues (inv .values) (words-are g))
+            ap (λ (f : Frame). record { found = true; frame = f }) (ap₂ withValues (inv .spelled-values) (words-are g))
             ∙ sym (ap (λ (b : Bool). cond b (record { found = true; frame = frameOf l }) nothing) (good-is ∙ sym (r .all) ∙ g))
 
 -- ---- the line as a whole
@@ -228,8 +228,8 @@ module _ (l : List ℕ) (kinds : ℕ) where
       let s = eqb (length l) (lineLength (count (frameOf l))) in
       let digits : allDigits (take (length l - 1) l) ≡ d =
       digits-are (inv .long) ∙ ap (λ (a : Bool). a && d) (inv .spelled) in
-      let fine : proper (frameOf l) ≡ true = proper-header l ∙ ap properHeader (sym (inv .values)) ∙ inv .proper in
-      let taken : bit kinds (frameOf l .kind) ≡ true = ap (λ (xs : List ℕ). bit kinds (getD xs 0 0)) (sym (inv .values)) ∙ b in
+      let fine : proper (frameOf l) ≡ true = proper-header l ∙ ap properHeader (sym (inv .spelled-values)) ∙ inv .proper in
+      let taken : bit kinds (frameOf l .kind) ≡ true = ap (λ (xs : List ℕ). bit kinds (getD xs 0 0)) (sym (inv .spelled-values)) ∙ b in
       let same : (isLine l && bit kinds (frameOf l .kind)) ≡ bodyGood l =
       ap₂ _&&_ (ap₂ (λ (x y : Bool). (x && c) && (s && y)) digits fine) taken ∙ turned d c s in
       sym (ap (λ (t : Bool). cond t (record { found = true; frame = frameOf l }) nothing) same)
@@ -257,4 +257,4 @@ module _ (l h : List ℕ) (kinds : ℕ) (long : 37 ≤ length l) (good : Bool) (
 
     pub headed : properHeader h ≡ true → Headed l h
     unfolding total
-    headed e = record { long = long; spelled = sym (r .all) ∙ g; values = values-are; proper = e }
+    headed e = record { long = long; spelled = sym (r .all) ∙ g; spelled-values = values-are; proper = e }

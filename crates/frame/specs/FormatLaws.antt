@@ -8,7 +8,7 @@ use mathlib.Core.List.{List, [], _∷_, _++_, append-nil, append-assoc}
 use lib.Dec.{leb, ltb, eqb}
 use lib.ListN.{length, getD, take, drop, replicate, length-append, length-replicate, length-drop, take-append-drop, drop-of-length-le}
 use lib.Seq.{take-at, drop-at, getD-at, take-add, split-at, length-take-le}
-use borrow.Author.Tests.{eqb-true, eq-eqb, leb-true, ltb-true}
+use borrow.Author.Tests.{eqb-true, eq-eqb, leb-true, le-leb}
 use Rattle.frame.specs.declared.Frame.{Frame}
 use Rattle.frame.specs.declared.Reading.{Reading}
 use Rattle.roster.specs.Mask.{bit}
@@ -16,7 +16,7 @@ use Rattle.frame.specs.Hex.{isDigit, allDigits, digitsOf, spell, numbers
 use Rattle.frame.specs.HexLaws.{all-append, number-digits, length-spell, all-spell, numbers-spell, numbers-fit, spell-numbers, length-numbers, numbers-take}
 use Rattle.frame.specs.Layout.{commandWidth, limit, capacity, widths, values, withValues, count, lineLength, longest}
 use Rattle.frame.specs.Kinds.{isKind, unusedZero}
-use Rattle.frame.specs.Format.{commands, lineFeed, lineOf, proper, allZero, fits, writable, padded, framed, frameOf, isLine, nothing, readingOf}
+use Rattle.frame.specs.Format.{commands, lineFeed, lineOf, proper, allZero, fits, writable, padded, framed, frameOf, isLine, nothing, readingOf, hasRoom, writtenLength, written}
 use Rattle.frame.specs.Tests.{and-left, and-right, and-both}
 
 -- ---- the layout
@@ -412,6 +412,42 @@ writable-m f e = proper-m f (writable-is f e .values-proper)
 pub writable-words : (f : Frame) → writable f ≡ true → length (f .words) ≡ capacity
 writable-words f e = fit-length (commands capacity) (f .words) (writable-is f e .words-fit) ∙ length-replicate capacity commandWidth
 
+-- ---- what is written
+
+module _ (f : Frame) (out : List ℕ) where
+  pub written-some : writable f ≡ true → lineLength (count f) ≤ length out → (writtenLength f out ≡ length (lineOf f)) × (written f out ≡ lineOf f ++ drop (length (lineOf f)) out)
+  unfolding writtenLength written hasRoom
+  written-some e h =
+      let room : (writable f && leb (lineLength (count f)) (length out)) ≡ true =
+      and-both (writable f) (leb (lineLength (count f)) (length out)) e (le-leb (lineLength (count f)) (length out) h) in (
+        ap (λ (b : Bool). cond b (lineLength (count f)) 0) room ∙ sym (length-of-line f e),
+        ap (λ (b : Bool). cond b (lineOf f ++ drop (lineLength (count f)) out) out) room
+            ∙ ap (λ (n : ℕ). lineOf f ++ drop n out) (sym (length-of-line f e)),
+      )
+
+  -- the longest line's room is enough
+  pub written-longest : writable f ≡ true → longest ≤ length out → (writtenLength f out ≡ length (lineOf f)) × (written f out ≡ lineOf f ++ drop (length (lineOf f)) out)
+  written-longest e h = written-some e (omega (arith, line-at-most f e, length-of-line f e))
+
+  pub written-none : writable f ≡ false → (writtenLength f out ≡ 0) × (written f out ≡ out)
+  unfolding writtenLength written hasRoom
+  written-none e = (rw e, rw e)
+
+  pub written-length : length (written f out) ≡ length out
+  unfolding written hasRoom
+  written-length = go (writable f && leb (lineLength (count f)) (length out)) refl
+    where
+      go : (b : Bool) → (writable f && leb (lineLength (count f)) (length out)) ≡ b → length (cond b (lineOf f ++ drop (lineLength (count f)) out) out) ≡ length out
+      go false e = refl
+      go true e =
+          omega (
+            arith,
+            length-append (lineOf f) (drop (lineLength (count f)) out),
+            length-drop (lineLength (count f)) out,
+            length-of-line f (and-left (writable f) (leb (lineLength (count f)) (length out)) e),
+            leb-true (lineLength (count f)) (length out) (and-right (writable f) (leb (lineLength (count f)) (length out)) e),
+          )
+
 -- ---- what is read
 
 module _ (l : List ℕ) (kinds : ℕ) where
@@ -445,3 +481,18 @@ module _ (l : List ℕ) (kinds : ℕ) where
 
     pub found-frame : readingOf l kinds .frame ≡ frameOf l
     found-frame = ap (λ (r : Reading). r .frame) (reading-line found-line found-taken)
+
+    pub found-writable : writable (readingOf l kinds .frame) ≡ true
+    found-writable = ap writable found-frame ∙ frame-is-writable l found-line
+
+    pub found-line-of : lineOf (readingOf l kinds .frame) ≡ l
+    found-line-of = ap lineOf found-frame ∙ line-of-frame l found-line
+
+    pub found-n : readingOf l kinds .frame .n ≤ limit
+    found-n = writable-n (readingOf l kinds .frame) found-writable
+
+    pub found-m : readingOf l kinds .frame .m ≤ limit
+    found-m = writable-m (readingOf l kinds .frame) found-writable
+
+    pub found-words : length (readingOf l kinds .frame .words) ≡ capacity
+    found-words = writable-words (readingOf l kinds .frame) found-writable

@@ -1,7 +1,7 @@
 -- What the functions inside `read` and `write` give.
-use Prim.Native.Nat.{ℕ, _+_, _-_, _*_, _/_, _%_, _≤_}
+use Prim.Native.Nat.{ℕ, zero, suc, _+_, _-_, _*_, _/_, _%_, _≤_}
 use mathlib.Core.Bool.{Bool, true, false, cond, _&&_}
-use mathlib.Core.List.{List, []}
+use mathlib.Core.List.{List, [], _∷_}
 use mathlib.Core.Path.{_≡_}
 use lib.Dec.{leb, eqb}
 use lib.ListN.{length, getD, take, drop}
@@ -15,6 +15,22 @@ use Rattle.frame.specs.Format.{frameOf, lineFeed, nothing}
 -- the digit that a character is; 256 for what is none
 unfoldable pub digitIn : ℕ → ℕ
 digitIn c = cond (isDigit c) (valueOf c) 256
+
+-- the two characters of a byte as one number: the first, and the second times 256
+unfoldable pub pair : ℕ → ℕ
+pair b = digit (b / 16) + 256 * digit (b % 16)
+
+-- the list of what a rule gives at each number below n
+abbrev pub tabled : ℕ → (ℕ → ℕ) → List ℕ
+tabled zero rule = []
+tabled (suc n) rule = rule 0 ∷ tabled n (λ k. rule (suc k))
+
+-- the table of the digits that characters are, and that of the two characters of each byte
+unfoldable pub values : List ℕ
+values = tabled 256 digitIn
+
+unfoldable pub pairs : List ℕ
+pairs = tabled 256 pair
 
 -- a number read from digits; 0 where not all are digits
 unfoldable pub numberIn : List ℕ → Spelled
@@ -34,7 +50,7 @@ properHeader h =
 pub record Headed (l h : List ℕ) : Type 0 where
   pub long : lineLength 0 ≤ length l
   pub spelled : allDigits (take (2 * total widths) l) ≡ true
-  pub values : h ≡ numbers widths l
+  pub spelled-values : h ≡ numbers widths l
   pub proper : properHeader h ≡ true
 
 -- what is left to test of such a line: the length, the line feed, and the digits of the commands
@@ -45,7 +61,3 @@ bodyGood l =
 
 unfoldable pub bodyReading : List ℕ → Reading
 bodyReading l = cond (bodyGood l) (record { found = true; frame = frameOf l }) nothing
-
--- the two characters of a byte as one number: the first, and the second times 256
-unfoldable pub pair : ℕ → ℕ
-pair b = digit (b / 16) + 256 * digit (b % 16)

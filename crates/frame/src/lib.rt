@@ -19,13 +19,6 @@ use tables::VALUES;
 // The longest line, with its line feed.
 pub const LONGEST: usize = 1061;
 
-// The longest line's length, which is what the layout says.
-pub fn longest() -> usize
-    ensures { λ r. ⌜ r ≡ layout.longest ⌝ }
-{
-    LONGEST
-}
-
 // A frame by value: the first n words are its first list of commands, the next m its second, and those after them are 0.
 pub struct Frame {
     pub kind: u8,
@@ -51,6 +44,18 @@ struct Spelled {
     value: u64,
 }
 
+// How many characters the header has, the shortest line, and a command; the most commands of a list.
+const HEADER: usize = 36;
+
+const SHORTEST: usize = 37;
+
+const COMMAND: usize = 16;
+
+const LIMIT: u64 = 32;
+
+// The line feed.
+const FEED: u8 = 10;
+
 // The widths of the header's fields: kind, sender, view, ballot, proven ballot, mask, n, m.
 const WIDTHS: [usize; 8] = [1, 1, 4, 4, 4, 2, 1, 1];
 
@@ -74,29 +79,23 @@ const USES: [[bool; 8]; 11] = [
     [YES, YES, YES, NO, NO, YES, NO, NO], // LEADER
 ];
 
-// The digit that a character is; 256 for what is none.
-fn digit_of(c: u8) -> u16
-    ensures { λ r. ⌜ r ≡ leaves.digitIn c ⌝ }
-{
-    VALUES[c as usize]
-}
-
 // The byte of two digits; 256 or more where one is no digit.
-fn byte_of(a: u8, b: u8) -> u16
+fn byte_of(values: &[u16], a: u8, b: u8) -> u16
+    requires { ⌜ now values ≡ leaves.values ⌝ }
     ensures { λ r. ⌜ r ≡ 16 * leaves.digitIn a + leaves.digitIn b ⌝ }
 {
-    16 * digit_of(a) + digit_of(b)
+    16 * values[a as usize] + values[b as usize]
 }
 
 // The number of `width` bytes that digits spell.
-fn number(digits: &[u8], width: usize) -> Spelled
-    requires { ⌜ (width ≤ 8) × (length (now digits) ≡ 2 * width) ⌝ }
+fn number(values: &[u16], digits: &[u8], width: usize) -> Spelled
+    requires { ⌜ (now values ≡ leaves.values) × (width ≤ 8) × (length (now digits) ≡ 2 * width) ⌝ }
     ensures { λ r. ⌜ r ≡ leaves.numberIn (now (digits .entry)) ⌝ }
 {
     let mut x: u64 = 0;
     let mut i: usize = 0;
     while i < width {
-        let byte = byte_of(digits[2 * i], digits[2 * i + 1]);
+        let byte = byte_of(values, digits[2 * i], digits[2 * i + 1]);
         if 256 <= byte {
             return Spelled {
                 good: false,
@@ -113,8 +112,8 @@ fn number(digits: &[u8], width: usize) -> Spelled
 }
 
 // The header's values; whether all characters are digits.
-fn read_header(digits: &[u8], head: &mut [u64]) -> bool
-    requires { ⌜ (length (now digits) ≡ 2 * hex.total layout.widths) × (length (now head) ≡ length layout.widths) ⌝ }
+fn read_header(values: &[u16], digits: &[u8], head: &mut [u64]) -> bool
+    requires { ⌜ (now values ≡ leaves.values) × (length (now digits) ≡ 2 * hex.total layout.widths) × (length (now head) ≡ length layout.widths) ⌝ }
     ensures { λ r. ⌜ leaves.NumbersIn layout.widths (now (digits .entry)) r (now (head .exit)) ⌝ }
 {
     let mut at: usize = 0;
@@ -122,7 +121,7 @@ fn read_header(digits: &[u8], head: &mut [u64]) -> bool
     while k < 8 {
         let width = WIDTHS[k];
         let end = at + 2 * width;
-        let x = number(&digits[at..end], width);
+        let x = number(values, &digits[at..end], width);
         if !x.good {
             return false;
         }
@@ -134,15 +133,15 @@ fn read_header(digits: &[u8], head: &mut [u64]) -> bool
 }
 
 // The commands; whether all characters are digits.
-fn read_words(digits: &[u8], words: &mut [u64]) -> bool
-    requires { ⌜ length (now digits) ≡ 16 * length (now words) ⌝ }
+fn read_words(values: &[u16], digits: &[u8], words: &mut [u64]) -> bool
+    requires { ⌜ (now values ≡ leaves.values) × (length (now digits) ≡ 16 * length (now words)) ⌝ }
     ensures { λ r. ⌜ leaves.NumbersIn (format.commands (length (now (words .entry)))) (now (digits .entry)) r (now (words .exit)) ⌝ }
 {
     let mut k: usize = 0;
     while k < words.len() {
-        let at = 16 * k;
-        let end = at + 16;
-        let x = number(&digits[at..end], 8);
+        let at = COMMAND * k;
+        let end = at + COMMAND;
+        let x = number(values, &digits[at..end], 8);
         if !x.good {
             return false;
         }
@@ -157,9 +156,10 @@ fn unused_zero(kind: usize, head: &[u64]) -> bool
     requires { ⌜ (kind < 11) × (length (now head) ≡ 8) ⌝ }
     ensures { λ r. ⌜ r ≡ kinds.zeroUnless (getD kinds.uses kind []) (now (head .entry)) ⌝ }
 {
+    let row = USES[kind];
     let mut k: usize = 0;
     while k < 8 {
-        let fine = USES[kind][k] | (head[k] == 0);
+        let fine = row[k] | (head[k] == 0);
         if !fine {
             return false;
         }
@@ -178,7 +178,7 @@ fn proper(head: &[u64]) -> bool
     if !known {
         return false;
     }
-    let few = (head[6] <= 32) & (head[7] <= 32);
+    let few = (head[6] <= LIMIT) & (head[7] <= LIMIT);
     if !few {
         return false;
     }
@@ -199,24 +199,16 @@ fn all_zero(words: &[u64]) -> bool
     true
 }
 
-// The two characters of a byte: the first, and the second times 256.
-fn pair_of(byte: u64) -> u16
-    requires { ⌜ byte < 256 ⌝ }
-    ensures { λ r. ⌜ r ≡ leaves.pair byte ⌝ }
-{
-    PAIRS[byte as usize]
-}
-
 // Writes a number of `width` bytes as digits, the last byte first.
-fn write_number(digits: &mut [u8], width: usize, number: u64)
-    requires { ⌜ length (now digits) ≡ 2 * width ⌝ }
+fn write_number(pairs: &[u16], digits: &mut [u8], width: usize, number: u64)
+    requires { ⌜ (now pairs ≡ leaves.pairs) × (length (now digits) ≡ 2 * width) ⌝ }
     ensures { λ r. ⌜ now (digits .exit) ≡ hex.digitsOf width number ⌝ }
 {
     let mut x = number;
     let mut k = width;
     while 0 < k {
         k -= 1;
-        let pair = pair_of(x % 256);
+        let pair = pairs[(x % 256) as usize];
         digits[2 * k] = (pair % 256) as u8;
         digits[2 * k + 1] = (pair / 256) as u8;
         x /= 256;
@@ -224,8 +216,8 @@ fn write_number(digits: &mut [u8], width: usize, number: u64)
 }
 
 // Writes the header's values.
-fn write_header(digits: &mut [u8], head: &[u64])
-    requires { ⌜ (length (now digits) ≡ 2 * hex.total layout.widths) × (length (now head) ≡ length layout.widths) ⌝ }
+fn write_header(pairs: &[u16], digits: &mut [u8], head: &[u64])
+    requires { ⌜ (now pairs ≡ leaves.pairs) × (length (now digits) ≡ 2 * hex.total layout.widths) × (length (now head) ≡ length layout.widths) ⌝ }
     ensures { λ r. ⌜ now (digits .exit) ≡ hex.spell layout.widths (now (head .entry)) ⌝ }
 {
     let mut at: usize = 0;
@@ -233,24 +225,31 @@ fn write_header(digits: &mut [u8], head: &[u64])
     while k < 8 {
         let width = WIDTHS[k];
         let end = at + 2 * width;
-        write_number(&mut digits[at..end], width, head[k]);
+        write_number(pairs, &mut digits[at..end], width, head[k]);
         at = end;
         k += 1;
     }
 }
 
 // Writes the commands.
-fn write_words(digits: &mut [u8], words: &[u64])
-    requires { ⌜ length (now digits) ≡ 16 * length (now words) ⌝ }
+fn write_words(pairs: &[u16], digits: &mut [u8], words: &[u64])
+    requires { ⌜ (now pairs ≡ leaves.pairs) × (length (now digits) ≡ 16 * length (now words)) ⌝ }
     ensures { λ r. ⌜ now (digits .exit) ≡ hex.spell (format.commands (length (now (words .entry)))) (now (words .entry)) ⌝ }
 {
     let mut k: usize = 0;
     while k < words.len() {
-        let at = 16 * k;
-        let end = at + 16;
-        write_number(&mut digits[at..end], 8, words[k]);
+        let at = COMMAND * k;
+        let end = at + COMMAND;
+        write_number(pairs, &mut digits[at..end], 8, words[k]);
         k += 1;
     }
+}
+
+// The longest line, which is what the layout makes it.
+pub fn longest() -> usize
+    ensures { λ r. ⌜ r ≡ layout.longest ⌝ }
+{
+    LONGEST
 }
 
 // What is read where there is no frame.
@@ -274,20 +273,20 @@ fn nothing() -> Reading
 }
 
 // The frame of a line whose header was read and is proper.
-fn read_body(line: &[u8], head: [u64; 8]) -> Reading
-    requires { ⌜ leaves.Headed (now line) head ⌝ }
+fn read_body(values: &[u16], line: &[u8], head: [u64; 8]) -> Reading
+    requires { ⌜ (now values ≡ leaves.values) × leaves.Headed (now line) head ⌝ }
     ensures { λ r. ⌜ r ≡ leaves.bodyReading (now (line .entry)) ⌝ }
 {
     let count = head[6] as usize + head[7] as usize;
-    let end = 36 + 16 * count;
+    let end = HEADER + COMMAND * count;
     if line.len() != end + 1 {
         return nothing();
     }
-    if line[end] != 10 {
+    if line[end] != FEED {
         return nothing();
     }
     let mut words = [0u64; 64];
-    let good = read_words(&line[36..end], &mut words[..count]);
+    let good = read_words(values, &line[HEADER..end], &mut words[..count]);
     if !good {
         return nothing();
     }
@@ -311,11 +310,12 @@ fn read_body(line: &[u8], head: [u64; 8]) -> Reading
 pub fn read(line: &[u8], kinds: u16) -> Reading
     ensures { λ r. ⌜ r ≡ format.readingOf (now (line .entry)) kinds ⌝ }
 {
-    if line.len() < 37 {
+    if line.len() < SHORTEST {
         return nothing();
     }
+    let values: &[u16] = &VALUES;
     let mut head = [0u64; 8];
-    let good = read_header(&line[..36], &mut head);
+    let good = read_header(values, &line[..HEADER], &mut head);
     if !good {
         return nothing();
     }
@@ -327,7 +327,7 @@ pub fn read(line: &[u8], kinds: u16) -> Reading
     if !taken {
         return nothing();
     }
-    read_body(line, head)
+    read_body(values, line, head)
 }
 
 // Writes the frame's line at the front of `out` and answers its length; 0, and nothing is written, where it has no line or there is no room.
@@ -354,12 +354,13 @@ pub fn write(frame: Frame, out: &mut [u8]) -> usize
     if !clear {
         return 0;
     }
-    let end = 36 + 16 * count;
+    let end = HEADER + COMMAND * count;
     if out.len() <= end {
         return 0;
     }
-    write_header(&mut out[..36], &head);
-    write_words(&mut out[36..end], &words[..count]);
-    out[end] = 10;
+    let pairs: &[u16] = &PAIRS;
+    write_header(pairs, &mut out[..HEADER], &head);
+    write_words(pairs, &mut out[HEADER..end], &words[..count]);
+    out[end] = FEED;
     end + 1
 }

@@ -7,10 +7,10 @@ use Rattle.frame.proofs.number.Statement.{statement}
 use Rattle.frame.proofs.number.Tie as tie
 
 abbrev Inv-loop : tie.InvT-loop
-Inv-loop digits width x₀ i₀ x i = Spelling digits width x i
+Inv-loop values digits width x₀ i₀ x i = Spelling digits width x i
 
 abbrev μ-loop : tie.MeasureT-loop
-μ-loop digits width x₀ i₀ x i = width - i
+μ-loop values digits width x₀ i₀ x i = width - i
 
 loop-holds : tie.Need-loop-holds Inv-loop μ-loop
 loop-holds c = spelling-start _ _
@@ -31,10 +31,10 @@ shared-slice-read-byte-of-2 : tie.Need-shared-slice-read-byte-of-2 Inv-loop μ-l
 shared-slice-read-byte-of-2 c = search needs
 
 byte-of-requires : tie.Need-byte-of-requires Inv-loop μ-loop
-byte-of-requires c κs = search needs
+byte-of-requires c κs = c .before .before .before .before .before .before .pre .0
 
 returns : tie.Need-returns Inv-loop μ-loop
-returns c = spelling-stop _ _ (c .before .before .before .before .before .loop .x) (c .before .before .before .before .before .loop .i) (c .before .before .before .before .before .loop .inv) (c .before .before .before .before .before .before .before .pre .1) (omega arith) _ (c .before .byte-of .ensures) (c .if1 .taken)
+returns c = spelling-stop _ _ (c .before .before .before .before .before .loop .x) (c .before .before .before .before .before .loop .i) (c .before .before .before .before .before .loop .inv) (c .before .before .before .before .before .before .before .before .pre .2) (omega arith) _ (c .before .byte-of .ensures) (c .if1 .taken)
 
 mul-x : tie.Need-mul-x Inv-loop μ-loop
 mul-x c = omega (arith, room (c .before .before .before .before .before .loop .i) (c .before .before .before .before .before .loop .x) (c .before .before .before .before .before .loop .inv .below) (omega arith))
@@ -52,10 +52,10 @@ loop-less : tie.Need-loop-less Inv-loop μ-loop
 loop-less c = search needs
 
 loop-again : tie.Need-loop-again Inv-loop μ-loop
-loop-again c = spelling-turn _ _ (c .before .before .before .before .before .loop .x) (c .before .before .before .before .before .loop .i) (c .before .before .before .before .before .loop .inv) (c .before .before .before .before .before .before .before .pre .1) (omega arith) _ (c .before .byte-of .ensures) (c .if1 .left)
+loop-again c = spelling-turn _ _ (c .before .before .before .before .before .loop .x) (c .before .before .before .before .before .loop .i) (c .before .before .before .before .before .loop .inv) (c .before .before .before .before .before .before .before .before .pre .2) (omega arith) _ (c .before .byte-of .ensures) (c .if1 .left)
 
 returns-2 : tie.Need-returns-2 Inv-loop μ-loop
-returns-2 c = spelling-end _ _ (c .before .loop .x) (c .before .loop .i) (c .before .loop .inv) (c .before .before .before .pre .1) (omega arith)
+returns-2 c = spelling-end _ _ (c .before .loop .x) (c .before .loop .i) (c .before .loop .inv) (c .before .before .before .before .pre .2) (omega arith)
 
 pub number-spec : {M : Type 1} → statement M
 number-spec =

@@ -1,14 +1,15 @@
 -- `frame::write` meets its contract: its tests are those of the contract, and what it writes is the header, the commands and the line feed.
-use Prim.Native.Nat.{ℕ, _+_, _*_, _-_, _<_}
+use Prim.Native.Nat.{ℕ}
 use native.Mathlib.Omega.{arith}
-use mathlib.Core.Path.{_≡_, sym, refl, _∙_}
+use mathlib.Core.Path.{sym, refl, _∙_}
 use borrow.Author.Needs.{needs}
 use borrow.Author.Tests.{not-true, not-false}
-use lib.ListN.{length, getD}
+use lib.ListN.{getD}
 use lib.Seq.{length-take-le}
 use mir.Val.{Fits}
 use mir.Syntax.{w64}
-use Rattle.frame.specs.Hex.{total}
+use Rattle.frame.specs.Hex.{total, digit}
+use Rattle.frame.specs.Leaves.{pairs, pair}
 use Rattle.frame.proofs.Frames.{Sized, frame-not-proper, not-clear, too-small, few-words, commands-room, put-is, put-size, all-written}
 use Rattle.frame.proofs.write.Statement.{statement}
 use Rattle.frame.proofs.write.Tie as tie
@@ -30,9 +31,6 @@ sized c =
       words = λ i. g i .fits;
     }
 
-cast-t11 : tie.Need-cast-t11
-cast-t11 c = search needs
-
 cast-t13 : tie.Need-cast-t13
 cast-t13 c = search needs
 
@@ -53,6 +51,9 @@ cast-t23 c = search needs
 
 cast-t25 : tie.Need-cast-t25
 cast-t25 c = search needs
+
+cast-t27 : tie.Need-cast-t27
+cast-t27 c = search needs
 
 slice-aggregate-proper : tie.Need-slice-aggregate-proper
 slice-aggregate-proper c = search needs
@@ -99,18 +100,21 @@ add-end c = search needs
 returns-3 : tie.Need-returns-3
 returns-3 c = too-small (c .before .before .before .before .before .before .before .before .before .before .before .args .t1) (c .before .before .before .before .before .before .before .before .before .before .before .args .out .now) (c .if3 .taken)
 
+slice-aggregate-pairs : tie.Need-slice-aggregate-pairs
+slice-aggregate-pairs c = search needs
+
 slice-relend-prefix-write-header : tie.Need-slice-relend-prefix-write-header
 slice-relend-prefix-write-header c = search needs
 
 slice-aggregate-write-header : tie.Need-slice-aggregate-write-header
-slice-aggregate-write-header c = sym (length-take-le 36 (c .before .before .before .before .before .before .before .before .before .before .before .before .args .out .now) (omega arith))
+slice-aggregate-write-header c = sym (length-take-le 36 (c .before .before .before .before .before .before .before .before .before .before .before .before .before .args .out .now) (omega arith))
 
 slice-aggregate-write-header-2 : tie.Need-slice-aggregate-write-header-2
 slice-aggregate-write-header-2 c = search needs
 
 write-header-requires : tie.Need-write-header-requires
-unfolding total
-write-header-requires c κs = (length-take-le 36 (c .before .before .before .before .before .before .before .before .before .before .before .before .before .args .out .now) (omega arith), refl)
+unfolding total pairs pair digit
+write-header-requires c κs = (refl, length-take-le 36 (c .before .before .before .before .before .before .before .before .before .before .before .before .before .before .args .out .now) (omega arith), refl)
 
 sub-write-words : tie.Need-sub-write-words
 sub-write-words c = search needs
@@ -122,10 +126,11 @@ part-write-words-end : tie.Need-part-write-words-end
 part-write-words-end c = search needs
 
 slice-aggregate-write-words : tie.Need-slice-aggregate-write-words
-slice-aggregate-write-words c = sym (length-take-le _ _ (few-words (c .before .before .before .before .before .before .before .before .before .before .before .before .before .before .before .before .before .before .args .t1) (sized (c .before .before .before .before .before .before .before .before .before .before .before .before .before .before .before .before .before .before)) (sym (c .before .before .before .before .before .before .before .before .before .before .before .before .before .before .before .proper .ensures) ∙ not-false (c .before .before .before .before .before .before .before .before .before .before .before .before .before .before .before .proper .result) (c .before .before .before .before .before .before .before .before .before .before .before .before .before .before .if1 .left))))
+slice-aggregate-write-words c = sym (length-take-le _ _ (few-words (c .before .before .before .before .before .before .before .before .before .before .before .before .before .before .before .before .before .before .before .args .t1) (sized (c .before .before .before .before .before .before .before .before .before .before .before .before .before .before .before .before .before .before .before)) (sym (c .before .before .before .before .before .before .before .before .before .before .before .before .before .before .before .before .proper .ensures) ∙ not-false (c .before .before .before .before .before .before .before .before .before .before .before .before .before .before .before .before .proper .result) (c .before .before .before .before .before .before .before .before .before .before .before .before .before .before .before .if1 .left))))
 
 write-words-requires : tie.Need-write-words-requires
-write-words-requires c κs = commands-room (c .before .before .before .before .before .before .before .before .before .before .before .before .before .before .before .before .before .before .args .t1) (c .before .before .before .before .before .before .before .before .before .before .before .before .before .before .before .before .before .before .args .out .now) (c .before .before .before .before .write-header .last .0) (few-words (c .before .before .before .before .before .before .before .before .before .before .before .before .before .before .before .before .before .before .args .t1) (sized (c .before .before .before .before .before .before .before .before .before .before .before .before .before .before .before .before .before .before)) (sym (c .before .before .before .before .before .before .before .before .before .before .before .before .before .before .before .proper .ensures) ∙ not-false (c .before .before .before .before .before .before .before .before .before .before .before .before .before .before .before .proper .result) (c .before .before .before .before .before .before .before .before .before .before .before .before .before .before .if1 .left))) (c .before .before .before .before .before .before .before .if3 .left) (c .before .before .before .before .write-header .kept .0 ∙ length-take-le 36 (c .before .before .before .before .before .before .before .before .before .before .before .before .before .before .before .before .before .before .args .out .now) (omega arith))
+unfolding pairs pair digit
+write-words-requires c κs = (refl, commands-room (c .before .before .before .before .before .before .before .before .before .before .before .before .before .before .before .before .before .before .before .args .t1) (c .before .before .before .before .before .before .before .before .before .before .before .before .before .before .before .before .before .before .before .args .out .now) (c .before .before .before .before .write-header .last .1 .0) (few-words (c .before .before .before .before .before .before .before .before .before .before .before .before .before .before .before .before .before .before .before .args .t1) (sized (c .before .before .before .before .before .before .before .before .before .before .before .before .before .before .before .before .before .before .before)) (sym (c .before .before .before .before .before .before .before .before .before .before .before .before .before .before .before .before .proper .ensures) ∙ not-false (c .before .before .before .before .before .before .before .before .before .before .before .before .before .before .before .before .proper .result) (c .before .before .before .before .before .before .before .before .before .before .before .before .before .before .before .if1 .left))) (c .before .before .before .before .before .before .before .before .if3 .left) (c .before .before .before .before .write-header .kept .1 .0 ∙ length-take-le 36 (c .before .before .before .before .before .before .before .before .before .before .before .before .before .before .before .before .before .before .before .args .out .now) (omega arith)))
 
 slice-write-out : tie.Need-slice-write-out
 slice-write-out c = search needs
@@ -134,18 +139,15 @@ add-result : tie.Need-add-result
 add-result c = search needs
 
 same-length : tie.Need-same-length
-same-length c = put-size (c .before .before .before .before .before .before .before .before .before .before .before .before .before .before .before .before .before .before .before .before .before .args .t1) (c .before .before .before .before .before .before .before .before .before .before .before .before .before .before .before .before .before .before .before .before .before .args .out .now) (c .before .before .before .before .before .before .before .write-header .last .0) (few-words (c .before .before .before .before .before .before .before .before .before .before .before .before .before .before .before .before .before .before .before .before .before .args .t1) (sized (c .before .before .before .before .before .before .before .before .before .before .before .before .before .before .before .before .before .before .before .before .before)) (sym (c .before .before .before .before .before .before .before .before .before .before .before .before .before .before .before .before .before .before .proper .ensures) ∙ not-false (c .before .before .before .before .before .before .before .before .before .before .before .before .before .before .before .before .before .before .proper .result) (c .before .before .before .before .before .before .before .before .before .before .before .before .before .before .before .before .before .if1 .left))) (c .before .before .before .before .before .before .before .before .before .before .if3 .left) (c .before .before .before .before .before .before .before .write-header .kept .0 ∙ length-take-le 36 (c .before .before .before .before .before .before .before .before .before .before .before .before .before .before .before .before .before .before .before .before .before .args .out .now) (omega arith)) (c .before .before .write-words .last .0) (c .before .before .write-words .kept .0)
+same-length c = put-size (c .before .before .before .before .before .before .before .before .before .before .before .before .before .before .before .before .before .before .before .before .before .before .args .t1) (c .before .before .before .before .before .before .before .before .before .before .before .before .before .before .before .before .before .before .before .before .before .before .args .out .now) (c .before .before .before .before .before .before .before .write-header .last .1 .0) (few-words (c .before .before .before .before .before .before .before .before .before .before .before .before .before .before .before .before .before .before .before .before .before .before .args .t1) (sized (c .before .before .before .before .before .before .before .before .before .before .before .before .before .before .before .before .before .before .before .before .before .before)) (sym (c .before .before .before .before .before .before .before .before .before .before .before .before .before .before .before .before .before .before .before .proper .ensures) ∙ not-false (c .before .before .before .before .before .before .before .before .before .before .before .before .before .before .before .before .before .before .before .proper .result) (c .before .before .before .before .before .before .before .before .before .before .before .before .before .before .before .before .before .before .if1 .left))) (c .before .before .before .before .before .before .before .before .before .before .before .if3 .left) (c .before .before .before .before .before .before .before .write-header .kept .1 .0 ∙ length-take-le 36 (c .before .before .before .before .before .before .before .before .before .before .before .before .before .before .before .before .before .before .before .before .before .before .args .out .now) (omega arith)) (c .before .before .write-words .last .1 .0) (c .before .before .write-words .kept .1 .0)
 
 returns-4 : tie.Need-returns-4
-returns-4 c =
-    all-written (c .before .before .before .before .before .before .before .before .before .before .before .before .before .before .before .before .before .before .before .before .before .args .t1) (sized (c .before .before .before .before .before .before .before .before .before .before .before .before .before .before .before .before .before .before .before .before .before)) (sym (c .before .before .before .before .before .before .before .before .before .before .before .before .before .before .before .before .before .before .proper .ensures) ∙ not-false (c .before .before .before .before .before .before .before .before .before .before .before .before .before .before .before .before .before .before .proper .result) (c .before .before .before .before .before .before .before .before .before .before .before .before .before .before .before .before .before .if1 .left)) (sym (c .before .before .before .before .before .before .before .before .before .before .before .before .all-zero .ensures) ∙ not-false (c .before .before .before .before .before .before .before .before .before .before .before .before .all-zero .result) (c .before .before .before .before .before .before .before .before .before .before .before .if2 .left)) (c .before .before .before .before .before .before .before .before .before .before .before .before .before .before .before .before .before .before .before .before .before .args .out .now) (c .before .before .before .before .before .before .before .write-header .last .0) (c .before .before .write-words .last .0) _ (c .before .before .before .before .before .before .before .before .before .before .if3 .left) (c .before .before .before .before .before .before .before .write-header .ensures) (c .before .before .write-words .ensures)
-    (put-is (c .before .before .before .before .before .before .before .before .before .before .before .before .before .before .before .before .before .before .before .before .before .args .t1) (c .before .before .before .before .before .before .before .before .before .before .before .before .before .before .before .before .before .before .before .before .before .args .out .now) (c .before .before .before .before .before .before .before .write-header .last .0) (few-words (c .before .before .before .before .before .before .before .before .before .before .before .before .before .before .before .before .before .before .before .before .before .args .t1) (sized (c .before .before .before .before .before .before .before .before .before .before .before .before .before .before .before .before .before .before .before .before .before)) (sym (c .before .before .before .before .before .before .before .before .before .before .before .before .before .before .before .before .before .before .proper .ensures) ∙ not-false (c .before .before .before .before .before .before .before .before .before .before .before .before .before .before .before .before .before .before .proper .result) (c .before .before .before .before .before .before .before .before .before .before .before .before .before .before .before .before .before .if1 .left))) (c .before .before .before .before .before .before .before .before .before .before .if3 .left) (c .before .before .before .before .before .before .before .write-header .kept .0 ∙ length-take-le 36 (c .before .before .before .before .before .before .before .before .before .before .before .before .before .before .before .before .before .before .before .before .before .args .out .now) (omega arith)) (c .before .before .write-words .last .0) (c .before .before .write-words .kept .0))
+returns-4 c = all-written (c .before .before .before .before .before .before .before .before .before .before .before .before .before .before .before .before .before .before .before .before .before .before .args .t1) (sized (c .before .before .before .before .before .before .before .before .before .before .before .before .before .before .before .before .before .before .before .before .before .before)) (sym (c .before .before .before .before .before .before .before .before .before .before .before .before .before .before .before .before .before .before .before .proper .ensures) ∙ not-false (c .before .before .before .before .before .before .before .before .before .before .before .before .before .before .before .before .before .before .before .proper .result) (c .before .before .before .before .before .before .before .before .before .before .before .before .before .before .before .before .before .before .if1 .left)) (sym (c .before .before .before .before .before .before .before .before .before .before .before .before .before .all-zero .ensures) ∙ not-false (c .before .before .before .before .before .before .before .before .before .before .before .before .before .all-zero .result) (c .before .before .before .before .before .before .before .before .before .before .before .before .if2 .left)) (c .before .before .before .before .before .before .before .before .before .before .before .before .before .before .before .before .before .before .before .before .before .before .args .out .now) (c .before .before .before .before .before .before .before .write-header .last .1 .0) (c .before .before .write-words .last .1 .0) _ (c .before .before .before .before .before .before .before .before .before .before .before .if3 .left) (c .before .before .before .before .before .before .before .write-header .ensures) (c .before .before .write-words .ensures) (put-is (c .before .before .before .before .before .before .before .before .before .before .before .before .before .before .before .before .before .before .before .before .before .before .args .t1) (c .before .before .before .before .before .before .before .before .before .before .before .before .before .before .before .before .before .before .before .before .before .before .args .out .now) (c .before .before .before .before .before .before .before .write-header .last .1 .0) (few-words (c .before .before .before .before .before .before .before .before .before .before .before .before .before .before .before .before .before .before .before .before .before .before .args .t1) (sized (c .before .before .before .before .before .before .before .before .before .before .before .before .before .before .before .before .before .before .before .before .before .before)) (sym (c .before .before .before .before .before .before .before .before .before .before .before .before .before .before .before .before .before .before .before .proper .ensures) ∙ not-false (c .before .before .before .before .before .before .before .before .before .before .before .before .before .before .before .before .before .before .before .proper .result) (c .before .before .before .before .before .before .before .before .before .before .before .before .before .before .before .before .before .before .if1 .left))) (c .before .before .before .before .before .before .before .before .before .before .before .if3 .left) (c .before .before .before .before .before .before .before .write-header .kept .1 .0 ∙ length-take-le 36 (c .before .before .before .before .before .before .before .before .before .before .before .before .before .before .before .before .before .before .before .before .before .before .args .out .now) (omega arith)) (c .before .before .write-words .last .1 .0) (c .before .before .write-words .kept .1 .0))
 
 pub write-spec : {M : Type 1} → statement M
 write-spec =
     tie.close
     (tie.spec
-    cast-t11
     cast-t13
     cast-t15
     cast-t17
@@ -153,6 +155,7 @@ write-spec =
     cast-t21
     cast-t23
     cast-t25
+    cast-t27
     slice-aggregate-proper
     proper-requires
     returns
@@ -168,6 +171,7 @@ write-spec =
     mul-end
     add-end
     returns-3
+    slice-aggregate-pairs
     slice-relend-prefix-write-header
     slice-aggregate-write-header
     slice-aggregate-write-header-2

@@ -9,13 +9,13 @@ use Rattle.frame.proofs.write_header.Statement.{statement}
 use Rattle.frame.proofs.write_header.Tie as tie
 
 abbrev Inv-loop : tie.InvT-loop
-Inv-loop digits₀ head at₀ k₀ digits at k = Laying widths head digits at k
+Inv-loop pairs digits₀ head at₀ k₀ digits at k = Laying widths head digits at k
 
 abbrev μ-loop : tie.MeasureT-loop
-μ-loop digits₀ head at₀ k₀ digits at k = 8 - k
+μ-loop pairs digits₀ head at₀ k₀ digits at k = 8 - k
 
 loop-holds : tie.Need-loop-holds Inv-loop μ-loop
-loop-holds c = laying-start widths _ _ (c .before .before .pre .1) (c .before .before .pre .0)
+loop-holds c = laying-start widths _ _ (c .before .before .before .pre .2) (c .before .before .before .pre .1)
 
 mul-width : tie.Need-mul-width Inv-loop μ-loop
 mul-width c = search needs
@@ -45,7 +45,7 @@ shared-slice-read-write-number : tie.Need-shared-slice-read-write-number Inv-loo
 shared-slice-read-write-number c = search needs
 
 write-number-requires : tie.Need-write-number-requires Inv-loop μ-loop
-write-number-requires c κs = part-size widths (c .before .before .before .loop .digits) (c .before .before .before .loop .at) (c .before .before .before .loop .k) (omega arith) (c .before .before .before .loop .inv .left) _ refl
+write-number-requires c κs = (c .before .before .before .before .before .before .before .pre .0, part-size widths (c .before .before .before .loop .digits) (c .before .before .before .loop .at) (c .before .before .before .loop .k) (omega arith) (c .before .before .before .loop .inv .left) _ refl)
 
 add-k : tie.Need-add-k Inv-loop μ-loop
 add-k c = search needs
@@ -54,10 +54,10 @@ loop-less : tie.Need-loop-less Inv-loop μ-loop
 loop-less c = search needs
 
 loop-again : tie.Need-loop-again Inv-loop μ-loop
-loop-again c = laying-turn widths _ _ (c .before .before .before .before .before .before .loop .at) (c .before .before .before .before .before .before .loop .k) (c .before .before .before .before .before .before .loop .inv) (omega arith) _ refl (c .before .before .write-number .last .0) (c .before .before .write-number .ensures) _ refl
+loop-again c = laying-turn widths _ _ (c .before .before .before .before .before .before .loop .at) (c .before .before .before .before .before .before .loop .k) (c .before .before .before .before .before .before .loop .inv) (omega arith) _ refl (c .before .before .write-number .last .1 .0) (c .before .before .write-number .ensures) _ refl
 
 same-length : tie.Need-same-length Inv-loop μ-loop
-same-length c = c .before .loop .inv .whole ∙ sym (c .before .before .before .before .pre .0)
+same-length c = c .before .loop .inv .whole ∙ sym (c .before .before .before .before .before .pre .1)
 
 returns : tie.Need-returns Inv-loop μ-loop
 returns c = laying-end widths _ _ (c .before .loop .at) (c .before .loop .k) (c .before .loop .inv) (omega arith)

@@ -14,7 +14,9 @@ number-requires : tie.Need-number-requires
 number-requires c κs = search needs
 
 returns : tie.Need-returns
-returns c = (λ i. record { answer = c .number .ensures i; supporters = c .before .before .step .result .supporters; state = c .before .before .step .result .state }) ∙ ap learnerOutcome (c .before .before .step .ensures)
+returns c =
+    let step-call = c .before .before .step in
+    (λ i. record { answer = c .number .ensures i; supporters = step-call .result .supporters; state = step-call .result .state }) ∙ ap learnerOutcome (step-call .ensures)
 
 pub learner-step-spec : {M : Type 1} → statement M
 learner-step-spec = tie.close (tie.spec step-requires number-requires returns)

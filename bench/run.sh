@@ -1,0 +1,10 @@
+#!/usr/bin/env bash
+# Times the proved code beside plain C built with -O3: the frame reader and writer on the longest line, and the program `learn`.
+set -euo pipefail
+cd "$(dirname "$0")/.."
+rt staticlib frame_bench >/dev/null
+rt check learn >/dev/null
+mkdir -p target/bench
+gcc -O3 -o target/bench/frame_bench bench/frame_bench.c target/staticlib/libframe_bench.a
+target/bench/frame_bench
+bench/learn.sh target/bin/learn

@@ -1,0 +1,188 @@
+// A learner over lines from standard input. The first line is N and f, two hex bytes; each later line gets a line with the answer and
+// the supporters. When the input pauses or ends, all answers so far are written.
+use learner::State;
+use libc::STDERR_FILENO;
+use libc::STDIN_FILENO;
+use libc::STDOUT_FILENO;
+use roster::Roster;
+
+const LINE_FEED: u8 = 10;
+
+// The longest answer, with its line feed.
+const LONGEST_ANSWER: usize = 8;
+
+// What stands between two bytes of input: the roster and the learner's state, whether the first line has ended, how many bytes are
+// kept of the line that arrives, how many of the answers not written yet, whether a write failed, and whether the input is over.
+struct Session {
+    roster: Roster,
+    state: State,
+    started: bool,
+    len: usize,
+    used: usize,
+    failed: bool,
+    over: bool,
+}
+
+// The first n bytes, or all of them if there are fewer.
+fn first<'a>(bytes: &'a [u8], n: usize) -> &'a [u8] {
+    if n <= bytes.len() { &bytes[..n] } else { bytes }
+}
+
+// Puts `text` behind the first `used` bytes, and answers how many are in use then.
+fn put(out: &mut [u8], used: usize, text: &[u8]) -> usize {
+    let mut end = used;
+    let mut i: usize = 0;
+    while i < text.len() {
+        end = lines::push(out, end, text[i]);
+        i += 1;
+    }
+    end
+}
+
+// Says on standard error which call failed.
+fn complain(call: &[u8]) {
+    io::write_all(STDERR_FILENO, call);
+    io::write_all(
+        STDERR_FILENO,
+        &[b' ', b'f', b'a', b'i', b'l', b'e', b'd', LINE_FEED],
+    );
+}
+
+// Writes bytes to standard output, unless a write failed before, and answers whether one has.
+fn write(failed: bool, bytes: &[u8]) -> bool {
+    if failed {
+        return true;
+    }
+    let written = io::write_all(STDOUT_FILENO, bytes);
+    if written {
+        return false;
+    }
+    complain(&[b'w', b'r', b'i', b't', b'e']);
+    true
+}
+
+// The session with all its answers written.
+fn flushed(mut s: Session, out: &[u8]) -> Session {
+    s.failed = write(s.failed, first(out, s.used));
+    s.used = 0;
+    s
+}
+
+// The session with room for one more answer.
+fn roomy(s: Session, out: &[u8]) -> Session {
+    let used = s.used;
+    if used <= out.len() {
+        if LONGEST_ANSWER <= out.len() - used {
+            return s;
+        }
+    }
+    flushed(s, out)
+}
+
+// The session after a line that gets an answer.
+fn answered(s: Session, line: &[u8], out: &mut [u8]) -> Session {
+    let ready = roomy(s, out);
+    let roster = ready.roster;
+    let outcome = learner::step(roster, ready.state, line);
+    let state = outcome.state;
+    let answer = outcome.answer;
+    let text = lines::answer_text(answer.number(), outcome.supporters);
+    let bytes: &[u8] = &text.bytes;
+    Session {
+        roster,
+        state,
+        started: true,
+        len: 0,
+        used: put(out, ready.used, first(bytes, text.len)),
+        failed: ready.failed,
+        over: ready.over,
+    }
+}
+
+// The session after a line that ended; `line` holds its first `len` bytes.
+fn ended(s: Session, line: &[u8], len: usize, out: &mut [u8]) -> Session {
+    let started = s.started;
+    if started {
+        return answered(s, first(line, len), out);
+    }
+    let mut next = s;
+    next.roster = lines::roster_of(first(line, len));
+    next.started = true;
+    next
+}
+
+// The session after bytes of input, with all answers written.
+fn chunk(s: Session, bytes: &[u8], line: &mut [u8], out: &mut [u8]) -> Session {
+    let mut next = s;
+    let mut len = s.len;
+    let mut i: usize = 0;
+    while i < bytes.len() {
+        let b = bytes[i];
+        len = lines::push(line, len, b);
+        if b == LINE_FEED {
+            next = ended(next, line, len, out);
+            len = 0;
+        }
+        i += 1;
+    }
+    next.len = len;
+    flushed(next, out)
+}
+
+// The session after one read of the input.
+fn turn(mut s: Session, input: &mut [u8], line: &mut [u8], out: &mut [u8]) -> Session {
+    let got = libc::read(STDIN_FILENO, input);
+    if got < 0 {
+        complain(&[b'r', b'e', b'a', b'd']);
+    }
+    if got <= 0 {
+        s.over = true;
+        return s;
+    }
+    let n = io::count(got, input);
+    chunk(s, first(input, n), line, out)
+}
+
+// The session after the whole input. A proved loop has to end, and nothing says that the input does. So the loop counts its turns
+// down, from a number that no run uses up.
+fn run(s: Session, input: &mut [u8], line: &mut [u8], out: &mut [u8]) -> Session {
+    let mut next = s;
+    let mut turns = u64::MAX;
+    while 0 < turns {
+        next = turn(next, input, line, out);
+        let stop = next.over | next.failed;
+        if stop {
+            return next;
+        }
+        turns -= 1;
+    }
+    next
+}
+
+// Answers an unfinished line, unless it is the first one: the bytes after the last line feed are no line, and are answered as that.
+fn finish(s: Session, line: &[u8], out: &mut [u8]) {
+    let started = s.started;
+    let len = s.len;
+    if started {
+        if 0 < len {
+            flushed(answered(s, first(line, len), out), out);
+        }
+    }
+}
+
+fn main() {
+    let mut input = io::large_buffer();
+    let mut line = [0u8; 1062];
+    let mut out = io::large_buffer();
+    let fresh = Session {
+        roster: Roster { n: 0, f: 0 },
+        state: State::fresh(),
+        started: false,
+        len: 0,
+        used: 0,
+        failed: false,
+        over: false,
+    };
+    let last = run(fresh, &mut input, &mut line, &mut out);
+    finish(last, &line, &mut out);
+}

@@ -1,0 +1,12 @@
+-- `lines::is_digit` meets its contract: its tests are the definition's.
+use mathlib.Core.Path.{refl}
+use Rattle.frame.specs.Hex.{isDigit}
+use Rattle.lines.proofs.is_digit.Statement.{statement}
+use Rattle.lines.proofs.is_digit.Tie as tie
+
+returns : tie.Need-returns
+unfolding isDigit
+returns c = refl
+
+pub is-digit-spec : {M : Type 1} → statement M
+is-digit-spec = tie.close (tie.spec returns)
