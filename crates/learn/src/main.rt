@@ -13,7 +13,7 @@ const LONGEST_ANSWER: usize = 8;
 
 // What stands between two bytes of input: the roster and the learner's state, whether the first line has ended, how many bytes are
 // kept of the line that arrives, how many of the answers not written yet, whether a write failed, and whether the input is over.
-struct Session {
+struct Stream {
     roster: Roster,
     state: State,
     started: bool,
@@ -61,15 +61,15 @@ fn write(failed: bool, bytes: &[u8]) -> bool {
     true
 }
 
-// The session with all its answers written.
-fn flushed(mut s: Session, out: &[u8]) -> Session {
+// The stream with all its answers written.
+fn flushed(mut s: Stream, out: &[u8]) -> Stream {
     s.failed = write(s.failed, first(out, s.used));
     s.used = 0;
     s
 }
 
-// The session with room for one more answer.
-fn roomy(s: Session, out: &[u8]) -> Session {
+// The stream with room for one more answer.
+fn roomy(s: Stream, out: &[u8]) -> Stream {
     let used = s.used;
     if used <= out.len() {
         if LONGEST_ANSWER <= out.len() - used {
@@ -79,8 +79,8 @@ fn roomy(s: Session, out: &[u8]) -> Session {
     flushed(s, out)
 }
 
-// The session after a line that gets an answer.
-fn answered(s: Session, line: &[u8], out: &mut [u8]) -> Session {
+// The stream after a line that gets an answer.
+fn answered(s: Stream, line: &[u8], out: &mut [u8]) -> Stream {
     let ready = roomy(s, out);
     let roster = ready.roster;
     let outcome = learner::step(roster, ready.state, line);
@@ -88,7 +88,7 @@ fn answered(s: Session, line: &[u8], out: &mut [u8]) -> Session {
     let answer = outcome.answer;
     let text = lines::answer_text(answer.number(), outcome.supporters);
     let bytes: &[u8] = &text.bytes;
-    Session {
+    Stream {
         roster,
         state,
         started: true,
@@ -99,8 +99,8 @@ fn answered(s: Session, line: &[u8], out: &mut [u8]) -> Session {
     }
 }
 
-// The session after a line that ended; `line` holds its first `len` bytes.
-fn ended(s: Session, line: &[u8], len: usize, out: &mut [u8]) -> Session {
+// The stream after a line that ended; `line` holds its first `len` bytes.
+fn ended(s: Stream, line: &[u8], len: usize, out: &mut [u8]) -> Stream {
     let started = s.started;
     if started {
         return answered(s, first(line, len), out);
@@ -111,8 +111,8 @@ fn ended(s: Session, line: &[u8], len: usize, out: &mut [u8]) -> Session {
     next
 }
 
-// The session after bytes of input, with all answers written.
-fn chunk(s: Session, bytes: &[u8], line: &mut [u8], out: &mut [u8]) -> Session {
+// The stream after bytes of input, with all answers written.
+fn chunk(s: Stream, bytes: &[u8], line: &mut [u8], out: &mut [u8]) -> Stream {
     let mut next = s;
     let mut len = s.len;
     let mut i: usize = 0;
@@ -129,8 +129,8 @@ fn chunk(s: Session, bytes: &[u8], line: &mut [u8], out: &mut [u8]) -> Session {
     flushed(next, out)
 }
 
-// The session after one read of the input.
-fn turn(mut s: Session, input: &mut [u8], line: &mut [u8], out: &mut [u8]) -> Session {
+// The stream after one read of the input.
+fn turn(mut s: Stream, input: &mut [u8], line: &mut [u8], out: &mut [u8]) -> Stream {
     let got = libc::read(STDIN_FILENO, input);
     if got < 0 {
         complain(&[b'r', b'e', b'a', b'd']);
@@ -143,9 +143,9 @@ fn turn(mut s: Session, input: &mut [u8], line: &mut [u8], out: &mut [u8]) -> Se
     chunk(s, first(input, n), line, out)
 }
 
-// The session after the whole input. A proved loop has to end, and nothing says that the input does. So the loop counts its turns
+// The stream after the whole input. A proved loop has to end, and nothing says that the input does. So the loop counts its turns
 // down, from a number that no run uses up.
-fn run(s: Session, input: &mut [u8], line: &mut [u8], out: &mut [u8]) -> Session {
+fn run(s: Stream, input: &mut [u8], line: &mut [u8], out: &mut [u8]) -> Stream {
     let mut next = s;
     let mut turns = u64::MAX;
     while 0 < turns {
@@ -160,7 +160,7 @@ fn run(s: Session, input: &mut [u8], line: &mut [u8], out: &mut [u8]) -> Session
 }
 
 // Answers an unfinished line, unless it is the first one: the bytes after the last line feed are no line, and are answered as that.
-fn finish(s: Session, line: &[u8], out: &mut [u8]) {
+fn finish(s: Stream, line: &[u8], out: &mut [u8]) {
     let started = s.started;
     let len = s.len;
     if started {
@@ -174,7 +174,7 @@ fn main() {
     let mut input = io::large_buffer();
     let mut line = [0u8; 1062];
     let mut out = io::large_buffer();
-    let fresh = Session {
+    let fresh = Stream {
         roster: Roster { n: 0, f: 0 },
         state: State::fresh(),
         started: false,
