@@ -165,7 +165,7 @@ impl Session {
         canonical(&kept)
     }
 
-    /// The state the session starts from: fresh, or one that no run need have
+    /// The state the run starts from: fresh, or one that no run need have
     /// led to but that a learner may be lent.
     pub fn start(&self, rng: &mut Rng) -> State {
         let mut s = State::fresh();
@@ -283,7 +283,7 @@ impl Session {
         }
     }
 
-    /// The next call, in the state that the session has come to.
+    /// The next call, in the state that the run has come to.
     pub fn call(&mut self, rng: &mut Rng, state: &State) -> Call {
         let mut call = Call {
             roster: self.roster,
