@@ -94,6 +94,10 @@ isCanonical h = equal (canonical h) h
 unfoldable pub validHistory : List ℕ → Bool
 validHistory h = allValid h && (not (repeated h) && isCanonical h)
 
+-- HISTORY, of the kinds that carry a history: "proposer and serial repeated; not canonical; n = 0"
+unfoldable pub improper : List ℕ → Bool
+improper h = repeated h || (not (isCanonical h) || eqb (length h) 0)
+
 -- whether c can be taken off the front of h: it stands there with no conflicting command before it
 unfoldable pub comesOff : ℕ → List ℕ → Bool
 comesOff c [] = false

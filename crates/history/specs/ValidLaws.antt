@@ -2,11 +2,14 @@
 use mathlib.Core.Path.{_≡_, refl, sym, ap, _∙_}
 use mathlib.Core.Bool.{Bool, true, false, not, _&&_, _||_, true≢false}
 use mathlib.Core.List.{List, [], _∷_, _++_}
-use Prim.Native.Nat.{ℕ}
-use borrow.Author.Tests.{not-true}
+use Prim.Native.Nat.{ℕ, _<_}
+use native.Mathlib.Omega.{arith}
+use borrow.Author.Tests.{not-true, not-false, eqb-false}
+use lib.Dec.{eqb}
+use lib.ListN.{length}
 use Rattle.command.specs.Command.{sameRequest, validCommand, allValid}
 use Rattle.command.specs.CommandLaws.{same-sym}
-use Rattle.history.specs.History.{present, repeated, canonical, equal, isCanonical, validHistory, ordered}
+use Rattle.history.specs.History.{present, repeated, canonical, equal, isCanonical, validHistory, improper, ordered}
 use Rattle.history.specs.ExtensionLaws.{and-left, and-right}
 use Rattle.history.specs.OrderLaws.{or-left, or-right}
 
@@ -29,6 +32,23 @@ parts-valid p = rw (p .commands, p .distinct, p .in-order)
 pub valid-nil : validHistory [] ≡ true
 unfolding validHistory allValid repeated isCanonical canonical ordered equal
 valid-nil = refl
+
+-- valid commands that are not improper are a valid history
+pub not-improper : (h : List ℕ) → allValid h ≡ true → improper h ≡ false → ValidHistory h
+unfolding improper
+not-improper h a e =
+    record {
+      commands = a;
+      distinct = or-left (repeated h) _ e;
+      in-order = not-false (isCanonical h) (or-left (not (isCanonical h)) _ (or-right (repeated h) _ e));
+    }
+
+-- and has a command
+pub proper-some : (h : List ℕ) → improper h ≡ false → 0 < length h
+unfolding improper
+proper-some h e =
+    let some-command = eqb-false (length h) 0 (or-right (not (isCanonical h)) _ (or-right (repeated h) _ e)) in
+    omega (arith, some-command)
 
 -- ---- appending
 

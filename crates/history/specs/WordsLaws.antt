@@ -18,6 +18,12 @@ length-padded zero l = refl
 length-padded (suc n) l = ap suc (length-padded n (drop 1 l))
 
 -- a list that fits is there whole
+-- a list of just the length stays
+pub padded-whole : (l : List ℕ) → padded (length l) l ≡ l
+unfolding padded
+padded-whole [] = refl
+padded-whole (c ∷ l) = ap (λ (x : List ℕ). c ∷ x) (padded-whole l)
+
 pub take-padded : (n : ℕ) (l : List ℕ) → length l ≤ n → take (length l) (padded n l) ≡ l
 unfolding padded
 take-padded n [] p = refl

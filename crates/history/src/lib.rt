@@ -60,6 +60,21 @@ pub fn valid(h: &[u64]) -> bool
     is_canonical(h)
 }
 
+// Whether a list that a frame carries is refused with HISTORY: a proposer and serial twice, not in canonical order, or empty.
+pub fn improper(h: &[u64]) -> bool
+    ensures { λ r. ⌜ r ≡ spec.improper (now (h .entry)) ⌝ }
+{
+    let twice = repeated(h);
+    if twice {
+        return true;
+    }
+    let ordered = is_canonical(h);
+    if !ordered {
+        return true;
+    }
+    h.len() == 0
+}
+
 // The place of the command at n among those before it, found by walking left until one conflicts.
 fn place(h: &[u64], n: usize) -> usize
     requires { ⌜ n < length (now h) ⌝ }
@@ -190,6 +205,15 @@ pub fn fill(dst: &mut [u64], src: &[u64])
 // The most commands of an extension that is tested: a union of two histories of 32.
 pub const WORK: usize = 64;
 
+// Whether h extends g, tried on a copy of h.
+fn extends_in(work: &mut [u64], h: &[u64], g: &[u64]) -> bool
+    requires { ⌜ length (now work) ≡ length (now h) ⌝ }
+    ensures { λ r. ⌜ r ≡ spec.extends (now (h .entry)) (now (g .entry)) ⌝ }
+{
+    fill(work, h);
+    bring(work, g)
+}
+
 // Whether h extends g, of an h of at most 64 commands; a longer one extends nothing here.
 pub fn extends(h: &[u64], g: &[u64]) -> bool
     ensures { λ r. ⌜ r ≡ words.extendsWithin 64 (now (h .entry)) (now (g .entry)) ⌝ }
@@ -200,8 +224,7 @@ pub fn extends(h: &[u64], g: &[u64]) -> bool
         return false;
     }
     let mut work = [0u64; WORK];
-    fill(&mut work, h);
-    bring(&mut work[..n], g)
+    extends_in(&mut work[..n], h, g)
 }
 
 impl History {

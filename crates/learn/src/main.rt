@@ -11,15 +11,20 @@ const LINE_FEED: u8 = 10;
 // The longest answer, with its line feed.
 const LONGEST_ANSWER: usize = 8;
 
-// What stands between two bytes of input: the roster and the learner's state, whether the first line has ended, how many bytes are
-// kept of the line that arrives, how many of the answers not written yet, whether a write failed, and whether the input is over.
+// The answers that are not written yet: how many bytes of them there are, and whether a write failed.
+struct Output {
+    used: usize,
+    failed: bool,
+}
+
+// What stands between two reads of the input: the roster and the learner's state, whether the first line has ended, how many bytes are
+// kept of the line that arrives, the answers, and whether the input is over.
 struct Stream {
     roster: Roster,
     state: State,
     started: bool,
     len: usize,
-    used: usize,
-    failed: bool,
+    output: Output,
     over: bool,
 }
 
@@ -61,72 +66,69 @@ fn write(failed: bool, bytes: &[u8]) -> bool {
     true
 }
 
-// The stream with all its answers written.
-fn flushed(mut s: Stream, out: &[u8]) -> Stream {
-    s.failed = write(s.failed, first(out, s.used));
-    s.used = 0;
-    s
+// The output with all its answers written.
+fn flushed(o: Output, out: &[u8]) -> Output {
+    Output {
+        used: 0,
+        failed: write(o.failed, first(out, o.used)),
+    }
 }
 
-// The stream with room for one more answer.
-fn roomy(s: Stream, out: &[u8]) -> Stream {
-    let used = s.used;
+// The output with room for one more answer.
+fn roomy(o: Output, out: &[u8]) -> Output {
+    let used = o.used;
     if used <= out.len() {
         if LONGEST_ANSWER <= out.len() - used {
-            return s;
+            return o;
         }
     }
-    flushed(s, out)
+    flushed(o, out)
 }
 
-// The stream after a line that gets an answer.
-fn answered(s: Stream, line: &[u8], out: &mut [u8]) -> Stream {
-    let ready = roomy(s, out);
-    let roster = ready.roster;
-    let outcome = learner::step(roster, ready.state, line);
-    let state = outcome.state;
-    let answer = outcome.answer;
-    let text = lines::answer_text(answer.number(), outcome.supporters);
+// The output with one more answer.
+fn answered(o: Output, number: u8, supporters: u8, out: &mut [u8]) -> Output {
+    let ready = roomy(o, out);
+    let text = lines::answer_text(number, supporters);
     let bytes: &[u8] = &text.bytes;
-    Stream {
-        roster,
-        state,
-        started: true,
-        len: 0,
+    Output {
         used: put(out, ready.used, first(bytes, text.len)),
         failed: ready.failed,
-        over: ready.over,
     }
-}
-
-// The stream after a line that ended; `line` holds its first `len` bytes.
-fn ended(s: Stream, line: &[u8], len: usize, out: &mut [u8]) -> Stream {
-    let started = s.started;
-    if started {
-        return answered(s, first(line, len), out);
-    }
-    let mut next = s;
-    next.roster = lines::roster_of(first(line, len));
-    next.started = true;
-    next
 }
 
 // The stream after bytes of input, with all answers written.
 fn chunk(s: Stream, bytes: &[u8], line: &mut [u8], out: &mut [u8]) -> Stream {
-    let mut next = s;
+    let mut roster = s.roster;
+    let mut state = s.state;
+    let mut started = s.started;
     let mut len = s.len;
+    let mut output = s.output;
     let mut i: usize = 0;
     while i < bytes.len() {
         let b = bytes[i];
+        i += 1;
         len = lines::push(line, len, b);
         if b == LINE_FEED {
-            next = ended(next, line, len, out);
+            if started {
+                let o = learner::step(roster, state, first(line, len));
+                let answer = o.answer;
+                state = o.state;
+                output = answered(output, answer.number(), o.supporters, out);
+            } else {
+                roster = lines::roster_of(first(line, len));
+                started = true;
+            }
             len = 0;
         }
-        i += 1;
     }
-    next.len = len;
-    flushed(next, out)
+    Stream {
+        roster,
+        state,
+        started,
+        len,
+        output: flushed(output, out),
+        over: s.over,
+    }
 }
 
 // The stream after one read of the input.
@@ -150,7 +152,7 @@ fn run(s: Stream, input: &mut [u8], line: &mut [u8], out: &mut [u8]) -> Stream {
     let mut turns = u64::MAX;
     while 0 < turns {
         next = turn(next, input, line, out);
-        let stop = next.over | next.failed;
+        let stop = next.over | next.output.failed;
         if stop {
             return next;
         }
@@ -165,7 +167,9 @@ fn finish(s: Stream, line: &[u8], out: &mut [u8]) {
     let len = s.len;
     if started {
         if 0 < len {
-            flushed(answered(s, first(line, len), out), out);
+            let o = learner::step(s.roster, s.state, first(line, len));
+            let answer = o.answer;
+            flushed(answered(s.output, answer.number(), o.supporters, out), out);
         }
     }
 }
@@ -179,8 +183,10 @@ fn main() {
         state: State::fresh(),
         started: false,
         len: 0,
-        used: 0,
-        failed: false,
+        output: Output {
+            used: 0,
+            failed: false,
+        },
         over: false,
     };
     let last = run(fresh, &mut input, &mut line, &mut out);

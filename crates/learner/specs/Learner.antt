@@ -3,13 +3,12 @@ use mathlib.Core.Bool.{Bool, true, false, not, cond, _&&_, _||_}
 use mathlib.Core.List.{List, [], _∷_}
 use Prim.Native.Nat.{ℕ}
 use lib.Dec.{leb, eqb}
-use lib.ListN.{length}
 use Rattle.roster.specs.declared.Roster.{Roster}
 use Rattle.roster.specs.Roster.{validRoster, quorum}
 use Rattle.roster.specs.Mask.{reaches, beyond}
 use Rattle.roster.specs.Sites.{countTo}
 use Rattle.command.specs.Command.{allValid}
-use Rattle.history.specs.History.{repeated, isCanonical, extends}
+use Rattle.history.specs.History.{extends, improper}
 use Rattle.history.specs.Words.{limit, commands, validStored, stored}
 use Rattle.merge.specs.declared.Merged.{Merged}
 use Rattle.merge.specs.Merged.{merged}
@@ -17,24 +16,17 @@ use Rattle.table.specs.declared.Table.{Table}
 use Rattle.table.specs.Table.{row, rowOf, storedAt, emptyTable, validTable}
 use Rattle.refusal.specs.declared.Refusal.{Refusal}
 use Rattle.refusal.specs.declared.Refusal.the-variants.{Config, Form, Sender, Stale, Proof, Command, History, Contradiction, Split, Full}
-use Rattle.refusal.specs.Refusal as refusal
 use Rattle.refusal.specs.Rules.{Rule, _gives_, judged}
 use Rattle.frame.specs.declared.Frame.{Frame}
 use Rattle.frame.specs.Layout.{first}
 use Rattle.frame.specs.Format.{readingOf, malformed}
 use Rattle.learner.specs.declared.State.{State}
-use Rattle.learner.specs.declared.Answer.{Answer}
-use Rattle.learner.specs.declared.Answer.the-variants.{Accepted, Refused}
+use Rattle.refusal.specs.declared.Answer.the-variants.{Accepted, Refused}
 use Rattle.learner.specs.declared.Outcome.{Outcome}
 
 -- "fresh: empty"
 abbrev pub fresh : State
 fresh = record { entries = emptyTable; learned = stored [] }
-
--- the number of an answer: 0 for an accepted frame
-abbrev pub number : Answer → ℕ
-number Accepted = 0
-number (Refused e) = refusal.number e
 
 -- ---- the refusals
 
@@ -74,10 +66,6 @@ proof r v = beyond (v .mask) (r .n) || not (reaches (v .mask) (quorum r))
 unfoldable pub wrong : List ℕ → Bool
 wrong h = not (allValid h)
 
--- HISTORY: proposer and serial repeated; not canonical; n = 0
-unfoldable pub improper : List ℕ → Bool
-improper h = repeated h || (not (isCanonical h) || eqb (length h) 0)
-
 -- CONTRADICTION: the sender's entry and this history, neither extends the other
 unfoldable pub contradicts : List ℕ → List ℕ → Bool
 contradicts entry h = not (extends h entry) && not (extends entry h)
@@ -85,8 +73,8 @@ contradicts entry h = not (extends h entry) && not (extends entry h)
 -- ---- an accepted vote
 
 -- "It is stored if it extends that site's entry; if the entry extends it, the entry stays."
-unfoldable pub counted : Table → ℕ → List ℕ → Table
-counted t site h = cond (extends h (rowOf t site)) (storedAt t site h) t
+unfoldable pub withVote : Table → ℕ → List ℕ → Table
+withVote t site h = cond (extends h (rowOf t site)) (storedAt t site h) t
 
 -- "Supporters are the sites whose entry then extends the arrived history."
 abbrev pub backs : List ℕ → List ℕ → List ℕ → ℕ → Bool
@@ -114,41 +102,40 @@ overflows r t s h = claimed r t h && union s h .full
 unfoldable pub after : Roster → Table → State → List ℕ → State
 after r t s h = record { entries = t; learned = cond (claimed r t h) (union s h .history) (s .learned) }
 
--- "The answer carries the number of supporters."
-abbrev pub accept : Roster → Table → State → List ℕ → Outcome
-accept r t s h = record { answer = Accepted; supporters = supporters r t h; state = after r t s h }
-
 -- "Each returns its number only (a learner's supporters: 0), sends nothing and keeps state"
 abbrev pub refuse : State → Refusal → Outcome
 refuse s e = record { answer = Refused e; supporters = 0; state = s }
 
--- what a vote that the learner merges gives, with k supporters, t being the entries with it
-abbrev pub learned : Table → State → List ℕ → ℕ → Outcome
-learned t s h k =
-    judged (refuse s) (record { answer = Accepted; supporters = k; state = record { entries = t; learned = union s h .history } })
-    (union s h .split gives Split ∷ union s h .full gives Full ∷ [])
-
 -- ---- the step: "Checks run in this order; the first that applies is given."
 
--- the checks of the vote against the entries, t being the entries with it
-abbrev pub lastRules : Roster → Table → State → List ℕ → List Rule
-lastRules r t s h = splits r t s h gives Split ∷ overflows r t s h gives Full ∷ []
+-- the checks of the history that a vote carries, of which `entry` is the sender's; `later` are those after them
+abbrev pub historyRules : List ℕ → List ℕ → List Rule → List Rule
+historyRules entry h later = wrong h gives Command ∷ improper h gives History ∷ contradicts entry h gives Contradiction ∷ later
 
-abbrev pub entryRules : Roster → State → ℕ → List ℕ → List Rule
-entryRules r s site h = contradicts (rowOf (s .entries) site) h gives Contradiction ∷ lastRules r (counted (s .entries) site h) s h
+-- the checks of a vote
+abbrev pub voteRules : Roster → List ℕ → Frame → List Rule → List Rule
+voteRules r entry v later = sender r v gives Sender ∷ stale v gives Stale ∷ proof r v gives Proof ∷ historyRules entry (arrived v) later
 
-abbrev pub historyRules : Roster → State → ℕ → List ℕ → List Rule
-historyRules r s site h = wrong h gives Command ∷ improper h gives History ∷ entryRules r s site h
+-- the checks of the merge, t being the entries with the vote
+abbrev pub mergeRules : Roster → Table → State → List ℕ → List Rule
+mergeRules r t s h = splits r t s h gives Split ∷ overflows r t s h gives Full ∷ []
 
-abbrev pub voteRules : Roster → State → Frame → List Rule
-voteRules r s v = sender r v gives Sender ∷ stale v gives Stale ∷ proof r v gives Proof ∷ historyRules r s (v .sender) (arrived v)
-
+-- all checks of a line
 abbrev pub rules : Roster → State → List ℕ → List Rule
-rules r s line = config r s gives Config ∷ form line gives Form ∷ voteRules r s (vote line)
+rules r s line =
+    config r s gives Config ∷
+    form line gives Form ∷
+    voteRules r (rowOf (s .entries) (vote line .sender)) (vote line)
+    (mergeRules r (withVote (s .entries) (vote line .sender) (arrived (vote line))) s (arrived (vote line)))
 
--- what an accepted vote gives
+-- what an accepted vote gives: "The answer carries the number of supporters."
 abbrev pub accepted : Roster → State → ℕ → List ℕ → Outcome
-accepted r s site h = accept r (counted (s .entries) site h) s h
+accepted r s site h =
+    record {
+      answer = Accepted;
+      supporters = supporters r (withVote (s .entries) site h) h;
+      state = after r (withVote (s .entries) site h) s h;
+    }
 
 unfoldable pub step : Roster → State → List ℕ → Outcome
 step r s line = judged (refuse s) (accepted r s (vote line .sender) (arrived (vote line))) (rules r s line)

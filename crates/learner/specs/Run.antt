@@ -5,7 +5,7 @@ use Prim.Native.Nat.{ℕ}
 use Rattle.roster.specs.declared.Roster.{Roster}
 use Rattle.learner.specs.declared.State.{State}
 use Rattle.learner.specs.declared.Outcome.{Outcome}
-use Rattle.learner.specs.declared.Answer.the-variants.{Accepted}
+use Rattle.refusal.specs.declared.Answer.the-variants.{Accepted}
 use Rattle.learner.specs.Learner.{step, vote, arrived}
 
 -- the state after some lines: each step gets the state that the last one left

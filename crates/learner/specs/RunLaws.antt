@@ -22,8 +22,8 @@ use Rattle.table.specs.TableLaws.{empty-sized}
 use Rattle.table.specs.ValidLaws.{valid-empty}
 use Rattle.refusal.specs.declared.Refusal.{Refusal}
 use Rattle.learner.specs.declared.State.{State}
-use Rattle.learner.specs.declared.Answer.{Answer}
-use Rattle.learner.specs.declared.Answer.the-variants.{Accepted, Refused}
+use Rattle.refusal.specs.declared.Answer.the-variants.{Accepted, Refused}
+use Rattle.refusal.specs.AnswerLaws.{accepted-not-refused, refused-same}
 use Rattle.learner.specs.declared.Outcome.{Outcome}
 use Rattle.learner.specs.Learner.{fresh, config, step, vote, arrived, refuse}
 use Rattle.learner.specs.StepLaws.{Accepts, Stepped, refuses, accepting, stepped, Sound, Advance, step-advance, step-config, roster-config, vote-entered, vote-learned}
@@ -60,24 +60,15 @@ pub refused-is : (r : Roster) (s : State) (line : List ℕ) (e : Refusal) → st
 refused-is r s line e p = go (stepped r s line)
   where
     go : Stepped r s line → step r s line ≡ refuse s e
-    go (refuses q g o) = o ∙ ap (refuse s) (same-refusal (sym (ap (λ (x : Outcome). x .answer) o) ∙ p))
-      where
-        same-refusal : {a b : Refusal} → _≡_ {A = Answer} (Refused a) (Refused b) → a ≡ b
-        same-refusal x = cc
-    go (accepting a) = absurd (never (sym (ap (λ (x : Outcome). x .answer) (a .outcome)) ∙ p))
-      where
-        never : {q : Refusal} → _≡_ {A = Answer} Accepted (Refused q) → ⊥
-        never x = let z : _≡_ {A = ℕ} 0 1 = cc in omega arith
+    go (refuses q g o) = o ∙ ap (refuse s) (refused-same (sym (ap (λ (x : Outcome). x .answer) o) ∙ p))
+    go (accepting a) = absurd (accepted-not-refused (sym (ap (λ (x : Outcome). x .answer) (a .outcome)) ∙ p))
 
 -- a line that is answered 0 is an accepted vote
 pub accepts-is : (r : Roster) (s : State) (line : List ℕ) → step r s line .answer ≡ Accepted → Accepts r s line
 accepts-is r s line e = go (stepped r s line)
   where
     go : Stepped r s line → Accepts r s line
-    go (refuses q g o) = absurd (never (sym (ap (λ (x : Outcome). x .answer) o) ∙ e))
-      where
-        never : {q : Refusal} → _≡_ {A = Answer} (Refused q) Accepted → ⊥
-        never x = let z : _≡_ {A = ℕ} 0 1 = cc in omega arith
+    go (refuses q g o) = absurd (accepted-not-refused (sym e ∙ ap (λ (x : Outcome). x .answer) o))
     go (accepting a) = a
 
 -- A refused line leaves the run as if it had not come: the state after it, and every later outcome.

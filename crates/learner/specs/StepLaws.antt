@@ -18,9 +18,9 @@ use Rattle.roster.specs.Sites.{countTo, allTo}
 use Rattle.roster.specs.SitesLaws.{true-or-false, all-each, lt-or-le}
 use Rattle.command.specs.Command.{allValid}
 use Rattle.command.specs.CommandLaws.{and-left, and-right}
-use Rattle.history.specs.History.{Extends, repeated, isCanonical, extends, validHistory}
+use Rattle.history.specs.History.{Extends, improper, isCanonical, extends, validHistory}
 use Rattle.history.specs.ExtensionLaws.{extends-refl, extends-sound}
-use Rattle.history.specs.ValidLaws.{ValidHistory, valid-parts, parts-valid}
+use Rattle.history.specs.ValidLaws.{ValidHistory, valid-parts, parts-valid, not-improper, proper-some}
 use Rattle.history.specs.Words.{limit, commands, stored, validStored}
 use Rattle.history.specs.WordsLaws.{commands-stored, stored-valid, valid-stored-history, valid-stored-length}
 use Rattle.merge.specs.declared.Merged.{Merged}
@@ -36,9 +36,8 @@ use Rattle.refusal.specs.declared.Refusal.the-variants.{Config}
 use Rattle.refusal.specs.Rules.{judged}
 use Rattle.refusal.specs.JudgedLaws.{GivenFirst, NoneHolds, passed, pass, Judgement, refused, accepts, judgement, rising}
 use Rattle.frame.specs.declared.Frame.{Frame}
-use Rattle.frame.specs.declared.Reading.{Reading}
-use Rattle.frame.specs.Format.{readingOf, isLine, frameOf, malformed}
-use Rattle.frame.specs.FormatLaws.{found-is, reading-line, line-is, proper-n}
+use Rattle.frame.specs.Format.{readingOf, malformed}
+use Rattle.frame.specs.FormatLaws.{found-n}
 use Rattle.learner.specs.declared.State.{State}
 use Rattle.learner.specs.declared.Outcome.{Outcome}
 use Rattle.learner.specs.Learner.{
@@ -51,9 +50,8 @@ use Rattle.learner.specs.Learner.{
   stale,
   proof,
   wrong,
-  improper,
   contradicts,
-  counted,
+  withVote,
   supporters,
   claimed,
   union,
@@ -78,8 +76,8 @@ pub record Accepts (r : Roster) (s : State) (line : List ℕ) : Type 0 where
   pub right : wrong (arrived (vote line)) ≡ false
   pub proper : improper (arrived (vote line)) ≡ false
   pub agrees : contradicts (rowOf (s .entries) (vote line .sender)) (arrived (vote line)) ≡ false
-  pub joins : splits r (counted (s .entries) (vote line .sender) (arrived (vote line))) s (arrived (vote line)) ≡ false
-  pub fits : overflows r (counted (s .entries) (vote line .sender) (arrived (vote line))) s (arrived (vote line)) ≡ false
+  pub joins : splits r (withVote (s .entries) (vote line .sender) (arrived (vote line))) s (arrived (vote line)) ≡ false
+  pub fits : overflows r (withVote (s .entries) (vote line .sender) (arrived (vote line))) s (arrived (vote line)) ≡ false
   pub outcome : step r s line ≡ accepted r s (vote line .sender) (arrived (vote line))
 
 pub data Stepped (r : Roster) (s : State) (line : List ℕ) : Type 0 where
@@ -167,27 +165,11 @@ taken-is k =
     (lt-or-le k 8)
 
 -- what the checks say of the arrived history
-or-left : (a b : Bool) → (a || b) ≡ false → a ≡ false
-or-left true b e = e
-or-left false b e = refl
-
-or-right : (a b : Bool) → (a || b) ≡ false → b ≡ false
-or-right true b e = absurd (true≢false e)
-or-right false b e = e
 
 -- a line that FORM lets pass is a frame's, so its n is at most 32
-vote-line : (line : List ℕ) → form line ≡ false → isLine line ≡ true
+pub vote-count : (line : List ℕ) → form line ≡ false → vote line .n ≤ limit
 unfolding malformed
-vote-line line e = and-left (isLine line) _ (sym (found-is line taken) ∙ not-false (readingOf line taken .found) e)
-
-vote-frame : (line : List ℕ) → form line ≡ false → vote line ≡ frameOf line
-unfolding malformed
-vote-frame line e =
-    let whole = sym (found-is line taken) ∙ not-false (readingOf line taken .found) e in
-    ap (λ (x : Reading). x .frame) (reading-line line taken (and-left (isLine line) _ whole) (and-right (isLine line) _ whole))
-
-vote-count : (line : List ℕ) → form line ≡ false → vote line .n ≤ limit
-vote-count line e = rw (vote-frame line e) (proper-n (frameOf line) (line-is line (vote-line line e) .values-proper))
+vote-count line e = found-n line taken (not-false (readingOf line taken .found) e)
 
 -- the arrived history of an accepted vote
 pub record Arrived (h : List ℕ) : Type 0 where
@@ -195,17 +177,13 @@ pub record Arrived (h : List ℕ) : Type 0 where
   pub some-command : 0 < length h
   pub short : length h ≤ limit
 
-positive : (n : ℕ) → (n ≡ 0 → ⊥) → 0 < n
-positive n f = omega (arith, f)
-
 pub arrived-is : {r : Roster} {s : State} {line : List ℕ} → Accepts r s line → Arrived (arrived (vote line))
-unfolding wrong improper
+unfolding wrong
 arrived-is {line = line} a =
     let h = arrived (vote line) in
-    let rest = or-right (repeated h) _ (a .proper) in
     record {
-      valid = record { commands = not-false (allValid h) (a .right); distinct = or-left (repeated h) _ (a .proper); in-order = not-false (isCanonical h) (or-left (not (isCanonical h)) _ rest) };
-      some-command = positive (length h) (eqb-false (length h) 0 (or-right (not (isCanonical h)) _ rest));
+      valid = not-improper h (not-false (allValid h) (a .right)) (a .proper);
+      some-command = proper-some h (a .proper);
       short = rw length-take (omega (arith, vote-count line (a .framed)));
     }
 
@@ -216,41 +194,41 @@ sender-below {r} {line = line} a = leb-false (r .n) (vote line .sender) (a .from
 -- ---- the entries
 
 -- where a history is stored, and where the entry stays
-counted-stored : (t : Table) (site : ℕ) (h : List ℕ) → extends h (rowOf t site) ≡ true → counted t site h ≡ storedAt t site h
-unfolding counted
-counted-stored t site h e = rw e
+pub vote-stored : (t : Table) (site : ℕ) (h : List ℕ) → extends h (rowOf t site) ≡ true → withVote t site h ≡ storedAt t site h
+unfolding withVote
+vote-stored t site h e = rw e
 
-counted-stays : (t : Table) (site : ℕ) (h : List ℕ) → extends h (rowOf t site) ≡ false → counted t site h ≡ t
-unfolding counted
-counted-stays t site h e = rw e
+pub vote-stays : (t : Table) (site : ℕ) (h : List ℕ) → extends h (rowOf t site) ≡ false → withVote t site h ≡ t
+unfolding withVote
+vote-stays t site h e = rw e
 
 module _ {t : Table} (z : Sized t) (site : ℕ) (h : List ℕ) (inside : site < sites) (short : length h ≤ limit) where
   -- the sender's entry then extends the arrived history
-  pub counted-entered : contradicts (rowOf t site) h ≡ false → Extends (rowOf (counted t site h) site) h
+  pub vote-enters : contradicts (rowOf t site) h ≡ false → Extends (rowOf (withVote t site h) site) h
   unfolding contradicts
-  counted-entered e =
-      ⊎-elim (λ p. rw (counted-stored t site h p, row-stored z site h inside short) (extends-refl h))
-      (λ p. rw (counted-stays t site h p) (extends-sound (rowOf t site) h (not-false (extends (rowOf t site) h) (rw p at e))))
+  vote-enters e =
+      ⊎-elim (λ p. rw (vote-stored t site h p, row-stored z site h inside short) (extends-refl h))
+      (λ p. rw (vote-stays t site h p) (extends-sound (rowOf t site) h (not-false (extends (rowOf t site) h) (rw p at e))))
       (true-or-false (extends h (rowOf t site)))
 
   -- each entry then extends what it was
-  pub counted-grows : (i : ℕ) → Extends (rowOf (counted t site h) i) (rowOf t i)
-  counted-grows i =
-      ⊎-elim (λ p. rw (counted-stored t site h p) (stored-grows p (ℕ-discrete i site)))
-      (λ p. rw (counted-stays t site h p) (extends-refl (rowOf t i)))
+  pub vote-grows : (i : ℕ) → Extends (rowOf (withVote t site h) i) (rowOf t i)
+  vote-grows i =
+      ⊎-elim (λ p. rw (vote-stored t site h p) (stored-grows p (ℕ-discrete i site)))
+      (λ p. rw (vote-stays t site h p) (extends-refl (rowOf t i)))
       (true-or-false (extends h (rowOf t site)))
     where
       stored-grows : extends h (rowOf t site) ≡ true → Dec (i ≡ site) → Extends (rowOf (storedAt t site h) i) (rowOf t i)
       stored-grows p (yes e) = rw (e, row-stored z site h inside short) (extends-sound h (rowOf t site) p)
       stored-grows p (no n) = rw (row-stored-other t site h i n) (extends-refl (rowOf t i))
 
-  pub counted-sized : Sized (counted t site h)
-  counted-sized =
-      ⊎-elim (λ p. rw (counted-stored t site h p) (stored-sized z site h)) (λ p. rw (counted-stays t site h p) z) (true-or-false (extends h (rowOf t site)))
+  pub vote-sized : Sized (withVote t site h)
+  vote-sized =
+      ⊎-elim (λ p. rw (vote-stored t site h p) (stored-sized z site h)) (λ p. rw (vote-stays t site h p) z) (true-or-false (extends h (rowOf t site)))
 
-  pub counted-valid : (n : ℕ) → validTable n t ≡ true → site < n → validHistory h ≡ true → validTable n (counted t site h) ≡ true
-  counted-valid n v q w =
-      ⊎-elim (λ p. rw (counted-stored t site h p) (valid-stored n t site h v q w)) (λ p. rw (counted-stays t site h p) v)
+  pub vote-valid : (n : ℕ) → validTable n t ≡ true → site < n → validHistory h ≡ true → validTable n (withVote t site h) ≡ true
+  vote-valid n v q w =
+      ⊎-elim (λ p. rw (vote-stored t site h p) (valid-stored n t site h v q w)) (λ p. rw (vote-stays t site h p) v)
       (true-or-false (extends h (rowOf t site)))
 
 -- ---- what is learned
@@ -319,28 +297,28 @@ module _ {r : Roster} {s : State} (p : Sound r s) {line : List ℕ} (a : Accepts
   in-table : vote line .sender < sites
   in-table = omega (arith, sender-below a, valid-figures r (p .roster) .max-sites)
 
-  accepted-advance : Advance r s (after r (counted (s .entries) (vote line .sender) (arrived (vote line))) s (arrived (vote line)))
+  accepted-advance : Advance r s (after r (withVote (s .entries) (vote line .sender) (arrived (vote line))) s (arrived (vote line)))
   accepted-advance =
       let h = arrived (vote line) in
       let site = vote line .sender in
-      let t = counted (s .entries) site h in
+      let t = withVote (s .entries) site h in
       let v = arrived-is a in
       record {
         sound = record {
-          sized = rw (after-entries r t s h) (counted-sized (p .sized) site h in-table (v .short));
+          sized = rw (after-entries r t s h) (vote-sized (p .sized) site h in-table (v .short));
           roster = p .roster;
-          entries = rw (after-entries r t s h) (counted-valid (p .sized) site h in-table (v .short) (r .n) (p .entries) (sender-below a) (parts-valid (v .valid)));
+          entries = rw (after-entries r t s h) (vote-valid (p .sized) site h in-table (v .short) (r .n) (p .entries) (sender-below a) (parts-valid (v .valid)));
           learned = after-valid r t s h (p .learned) v (a .joins) (a .fits);
         };
-        entries-grow = λ i. rw (after-entries r t s h) (counted-grows (p .sized) site h in-table (v .short) i);
+        entries-grow = λ i. rw (after-entries r t s h) (vote-grows (p .sized) site h in-table (v .short) i);
         learned-grows = after-grows r t s h (p .learned) v (a .joins) (a .fits);
       }
 
   -- an accepted vote leaves its site's entry extending it
   pub vote-entered : Extends (rowOf (step r s line .state .entries) (vote line .sender)) (arrived (vote line))
   vote-entered =
-      rw (a .outcome, after-entries r (counted (s .entries) (vote line .sender) (arrived (vote line))) s (arrived (vote line)))
-      (counted-entered (p .sized) (vote line .sender) (arrived (vote line)) in-table (arrived-is a .short) (a .agrees))
+      rw (a .outcome, after-entries r (withVote (s .entries) (vote line .sender) (arrived (vote line))) s (arrived (vote line)))
+      (vote-enters (p .sized) (vote line .sender) (arrived (vote line)) in-table (arrived-is a .short) (a .agrees))
 
   -- where the entries of N-f sites then extend it, what is learned does
   pub vote-learned : quorum r ≤ countTo (r .n) (λ i. extends (rowOf (step r s line .state .entries) i) (arrived (vote line)))
@@ -348,7 +326,7 @@ module _ {r : Roster} {s : State} (p : Sound r s) {line : List ℕ} (a : Accepts
   unfolding claimed supporters
   vote-learned q =
       let h = arrived (vote line) in
-      let t = counted (s .entries) (vote line .sender) h in
+      let t = withVote (s .entries) (vote line .sender) h in
       rw (a .outcome)
       (after-holds r t s h (p .learned) (arrived-is a) (a .joins) (a .fits) (le-leb (quorum r) _ (rw (a .outcome, after-entries r t s h) at q)))
 

@@ -1,12 +1,15 @@
 // The learner: it stores each site's votes, and learns a history that a quorum of sites stand behind.
+ghost use mathlib.Core.Bool.{cond};
 ghost use mathlib.Core.Path.{_≡_};
 ghost use Prim.Native.Nat.{_≤_};
 ghost use lib.ListN.{length, take};
 ghost use Rattle.roster.specs.Sites.{countTo};
-ghost use Rattle.refusal.specs.Rules.{judged};
 ghost use Rattle.learner.specs.Learner as spec;
+ghost use Rattle.learner.specs.Verdict as verdict;
 use frame::Frame;
+use frame::Reading;
 use history::History;
+use refusal::Answer;
 use refusal::Refusal;
 use roster::Roster;
 use table::Table;
@@ -18,12 +21,6 @@ pub struct State {
     pub learned: History,
 }
 
-// What a step answers: accepted, or why not.
-pub enum Answer {
-    Accepted,
-    Refused(Refusal),
-}
-
 // The answer to a line, the number of supporters of the arrived history, and the state after it.
 pub struct Outcome {
     pub answer: Answer,
@@ -31,33 +28,36 @@ pub struct Outcome {
     pub state: State,
 }
 
-// A refusal: no supporters, and the same state.
-fn refuse(s: State, e: Refusal) -> Outcome
-    ensures { λ o. ⌜ o ≡ spec.refuse s e ⌝ }
+// What is decided of a vote: the answer, the supporters, whether the vote is stored, and what is learned with it, if anything is.
+struct Verdict {
+    answer: Answer,
+    supporters: u8,
+    stores: bool,
+    learns: bool,
+    learned: History,
+}
+
+// The verdict that refuses.
+fn against(e: Refusal) -> Verdict
+    ensures { λ v. ⌜ v ≡ verdict.against e ⌝ }
 {
-    Outcome {
+    Verdict {
         answer: Answer::Refused(e),
         supporters: 0,
-        state: s,
+        stores: false,
+        learns: false,
+        learned: History {
+            count: 0,
+            words: [0u64; 32],
+        },
     }
 }
 
-// Whether the roster or the state is one that no step takes.
-fn config(r: Roster, s: State) -> bool
-    ensures { λ b. ⌜ b ≡ spec.config r s ⌝ }
+// A number of a frame as an index.
+fn wide(n: u8) -> usize
+    ensures { λ k. ⌜ k ≡ n ⌝ }
 {
-    let figures = r.valid();
-    if !figures {
-        return true;
-    }
-    let entries = s.entries;
-    let rows = entries.is_valid(r.n);
-    if !rows {
-        return true;
-    }
-    let learned = s.learned;
-    let history = learned.is_valid();
-    !history
+    n as usize
 }
 
 // The first n words, or all of them if there are fewer.
@@ -67,177 +67,247 @@ fn first<'a>(words: &'a [u64], n: usize) -> &'a [u64]
     if n <= words.len() { &words[..n] } else { words }
 }
 
-// How many of the first n rows extend h.
-fn supporters<'a>(words: &'a [u64], counts: &'a [u8], n: u8, h: &[u64]) -> u8
-    ensures { λ k. ⌜ k ≡ countTo n (spec.backs (now (words .entry)) (now (counts .entry)) (now (h .entry))) ⌝ }
+// Whether the roster, the entries or what is learned, the first `count` words of `past`, are such that no step takes them.
+fn config<'a>(r: Roster, words: &'a [u64], counts: &'a [u8], past: &[u64], count: u8) -> bool
+    ensures { λ b. ⌜ b ≡ spec.config r (verdict.stateOf (now (words .entry)) (now (counts .entry)) (now (past .entry)) count) ⌝ }
+{
+    let figures = r.valid();
+    if !figures {
+        return true;
+    }
+    let rows = table::rows_valid(words, counts, r.n);
+    if !rows {
+        return true;
+    }
+    let short = count as usize <= History::LIMIT;
+    if !short {
+        return true;
+    }
+    let history = history::valid(first(past, count as usize));
+    !history
+}
+
+// Whether site i stands behind h once `site` has voted for it.
+fn stands<'a>(words: &'a [u64], counts: &'a [u8], site: u8, h: &[u64], i: u8) -> bool
+    ensures { λ b. ⌜ b ≡ verdict.stands (now (words .entry)) (now (counts .entry)) site (now (h .entry)) i ⌝ }
+{
+    let voter = i == site;
+    if voter {
+        return true;
+    }
+    history::extends(table::row(words, counts, i as usize), h)
+}
+
+// How many of the first n sites stand behind h once `site` has voted for it.
+fn supporters<'a>(words: &'a [u64], counts: &'a [u8], n: u8, site: u8, h: &[u64]) -> u8
+    ensures { λ k. ⌜ k ≡ countTo n (verdict.stands (now (words .entry)) (now (counts .entry)) site (now (h .entry))) ⌝ }
 {
     let mut count: u8 = 0;
     let mut next: u8 = 0;
     while next < n {
-        let entry = table::row(words, counts, next as usize);
-        let backs = history::extends(entry, h);
+        let behind = stands(words, counts, site, h, next);
         next += 1;
-        if backs {
+        if behind {
             count += 1;
         }
     }
     count
 }
 
-// The answer to a vote that the learner merges: t are the entries with it, and k its supporters.
-fn learn(t: Table, s: State, h: &[u64], k: u8) -> Outcome
-    ensures { λ o. ⌜ o ≡ spec.learned t s (now (h .entry)) k ⌝ }
+// The verdict on a vote that the learner merges with what it learned, k being the supporters.
+fn learn(learned: &[u64], h: &[u64], stores: bool, k: u8) -> Verdict
+    ensures { λ v. ⌜ v ≡ verdict.merging (now (learned .entry)) (now (h .entry)) stores k ⌝ }
 {
-    let learned = s.learned;
-    let words: &[u64] = &learned.words;
-    let m = merge::merge(first(words, learned.count as usize), h);
+    let m = merge::merge(learned, h);
     let split = m.split;
     if split {
-        return refuse(s, Refusal::Split);
+        return against(Refusal::Split);
     }
     let full = m.full;
     if full {
-        return refuse(s, Refusal::Full);
+        return against(Refusal::Full);
     }
     let history = m.history;
-    Outcome {
+    Verdict {
         answer: Answer::Accepted,
         supporters: k,
-        state: State {
-            entries: t,
-            learned: history,
-        },
+        stores,
+        learns: true,
+        learned: history,
     }
 }
 
-// The answer to a vote that contradicts nothing: t are the entries with it.
-fn conclude(r: Roster, t: Table, s: State, h: &[u64]) -> Outcome
-    ensures { λ o. ⌜ o ≡ judged (spec.refuse s) (spec.accept r t s (now (h .entry))) (spec.lastRules r t s (now (h .entry))) ⌝ }
+// The verdict on a vote that contradicts nothing.
+fn conclude<'a>(
+    r: Roster,
+    words: &'a [u64],
+    counts: &'a [u8],
+    learned: &[u64],
+    site: u8,
+    h: &[u64],
+    stores: bool,
+) -> Verdict
+    ensures { λ v. ⌜ v ≡ verdict.onMerge r (now (words .entry)) (now (counts .entry)) (now (learned .entry)) site (now (h .entry)) stores ⌝ }
 {
-    let words: &[u64] = &t.words;
-    let counts: &[u8] = &t.counts;
-    let k = supporters(words, counts, r.n, h);
-    let claimed = r.quorum() <= k as u32;
-    if claimed {
-        return learn(t, s, h, k);
+    let k = supporters(words, counts, r.n, site, h);
+    let enough = r.quorum() <= k as u32;
+    if enough {
+        return learn(learned, h, stores, k);
     }
-    let learned = s.learned;
-    Outcome {
+    Verdict {
         answer: Answer::Accepted,
         supporters: k,
-        state: State {
-            entries: t,
-            learned,
+        stores,
+        learns: false,
+        learned: History {
+            count: 0,
+            words: [0u64; 32],
         },
     }
 }
 
-// The answer to a vote of a proper history: against the sender's entry, and then the others.
-fn enter(r: Roster, s: State, site: usize, h: &[u64]) -> Outcome
+// The verdict on a vote of a proper history: against the sender's entry, and then the others.
+fn enter<'a>(
+    r: Roster,
+    words: &'a [u64],
+    counts: &'a [u8],
+    learned: &[u64],
+    site: u8,
+    h: &[u64],
+) -> Verdict
     requires { ⌜ length (now h) ≤ 64 ⌝ }
-    ensures { λ o. ⌜ o ≡ judged (spec.refuse s) (spec.accepted r s site (now (h .entry))) (spec.entryRules r s site (now (h .entry))) ⌝ }
+    ensures { λ v. ⌜ v ≡ verdict.onEntry r (now (words .entry)) (now (counts .entry)) (now (learned .entry)) site (now (h .entry)) ⌝ }
 {
-    let t = s.entries;
-    let words: &[u64] = &t.words;
-    let counts: &[u8] = &t.counts;
-    let entry = table::row(words, counts, site);
+    let entry = table::row(words, counts, site as usize);
     let newer = history::extends(h, entry);
     if newer {
-        return conclude(r, t.stored(site, h), s, h);
+        return conclude(r, words, counts, learned, site, h, true);
     }
     let older = history::extends(entry, h);
     if older {
-        return conclude(r, t, s, h);
+        return conclude(r, words, counts, learned, site, h, false);
     }
-    refuse(s, Refusal::Contradiction)
+    against(Refusal::Contradiction)
 }
 
-// The answer to a history that a vote carries: its commands, and whether it is a history in canonical order.
-fn inspect(r: Roster, s: State, site: usize, h: &[u64]) -> Outcome
+// The verdict on the history that a vote carries: its commands, and whether it is a history in canonical order.
+fn inspect<'a>(
+    r: Roster,
+    words: &'a [u64],
+    counts: &'a [u8],
+    learned: &[u64],
+    site: u8,
+    h: &[u64],
+) -> Verdict
     requires { ⌜ length (now h) ≤ 64 ⌝ }
-    ensures { λ o. ⌜ o ≡ judged (spec.refuse s) (spec.accepted r s site (now (h .entry))) (spec.historyRules r s site (now (h .entry))) ⌝ }
+    ensures { λ v. ⌜ v ≡ verdict.onHistory r (now (words .entry)) (now (counts .entry)) (now (learned .entry)) site (now (h .entry)) ⌝ }
 {
     let valid = command::all_valid(h);
     if !valid {
-        return refuse(s, Refusal::Command);
+        return against(Refusal::Command);
     }
-    let repeated = history::repeated(h);
-    if repeated {
-        return refuse(s, Refusal::History);
+    let improper = history::improper(h);
+    if improper {
+        return against(Refusal::History);
     }
-    let canonical = history::is_canonical(h);
-    if !canonical {
-        return refuse(s, Refusal::History);
-    }
-    let empty = h.len() == 0;
-    if empty {
-        return refuse(s, Refusal::History);
-    }
-    enter(r, s, site, h)
+    enter(r, words, counts, learned, site, h)
 }
 
-// The answer to a vote with its certificate: the history that it carries.
-fn arrive(r: Roster, s: State, v: Frame) -> Outcome
-    ensures { λ o. ⌜ o ≡ judged (spec.refuse s) (spec.accepted r s (v .sender) (spec.arrived v)) (spec.historyRules r s (v .sender) (spec.arrived v)) ⌝ }
-{
-    let words: &[u64] = &v.words;
-    let n = v.n as usize;
-    inspect(r, s, v.sender as usize, first(words, n))
-}
-
-// The answer to a frame: sender, ballot and certificate.
-fn vote(r: Roster, s: State, v: Frame) -> Outcome
-    ensures { λ o. ⌜ o ≡ judged (spec.refuse s) (spec.accepted r s (v .sender) (spec.arrived v)) (spec.voteRules r s v) ⌝ }
+// The verdict on a vote: sender, ballot and certificate, and then the history.
+fn vote<'a>(r: Roster, words: &'a [u64], counts: &'a [u8], learned: &[u64], v: Frame) -> Verdict
+    ensures { λ d. ⌜ d ≡ verdict.onVote r (now (words .entry)) (now (counts .entry)) (now (learned .entry)) v ⌝ }
 {
     let unknown = r.n <= v.sender;
     if unknown {
-        return refuse(s, Refusal::Sender);
+        return against(Refusal::Sender);
     }
     let ballot = v.ballot;
     let stale = ballot.0 == 0;
     if stale {
-        return refuse(s, Refusal::Stale);
+        return against(Refusal::Stale);
     }
     let beyond = roster::beyond(v.mask, r.n);
     if beyond {
-        return refuse(s, Refusal::Proof);
+        return against(Refusal::Proof);
     }
     let enough = roster::reaches(v.mask, r.quorum());
     if !enough {
-        return refuse(s, Refusal::Proof);
+        return against(Refusal::Proof);
     }
-    arrive(r, s, v)
+    let arrived: &[u64] = &v.words;
+    inspect(
+        r,
+        words,
+        counts,
+        learned,
+        v.sender,
+        first(arrived, v.n as usize),
+    )
+}
+
+// What is learned after a verdict: what it brings, or what was learned before.
+fn latest(learns: bool, learned: History, before: History) -> History
+    ensures { λ h. ⌜ h ≡ cond learns learned before ⌝ }
+{
+    if learns { learned } else { before }
 }
 
 // The kinds that a learner takes: P2B alone, which is bit 7.
 const TAKEN: u16 = 128;
 
-// One step: the answer to a line, its supporters, and the state after it. Any line is answered in any state.
-pub fn step(r: Roster, s: State, line: &[u8]) -> Outcome
-    ensures { λ o. ⌜ o ≡ spec.step r s (now (line .entry)) ⌝ }
+// The verdict on what was read of a line. What is learned is the first `count` words of `past`.
+fn judge<'a>(
+    r: Roster,
+    words: &'a [u64],
+    counts: &'a [u8],
+    past: &'a [u64],
+    count: u8,
+    reading: Reading,
+) -> Verdict
+    ensures { λ v. ⌜ v ≡ verdict.onReading r (now (words .entry)) (now (counts .entry)) (now (past .entry)) count reading ⌝ }
 {
-    let unfit = config(r, s);
+    let unfit = config(r, words, counts, past, count);
     if unfit {
-        return refuse(s, Refusal::Config);
+        return against(Refusal::Config);
     }
-    let reading = frame::read(line, TAKEN);
     let found = reading.found;
     if !found {
-        return refuse(s, Refusal::Form);
+        return against(Refusal::Form);
     }
-    let v = reading.frame;
-    vote(r, s, v)
+    vote(r, words, counts, first(past, count as usize), reading.frame)
 }
 
-impl Answer {
-    // The answer's number: 0 for an accepted frame, else the refusal's.
-    pub fn number(self) -> u8
-        ensures { λ n. ⌜ n ≡ spec.number self ⌝ }
-    {
-        match self {
-            Answer::Accepted => 0,
-            Answer::Refused(e) => refusal::number(e),
-        }
+// One step: the answer to a line, its supporters, and the state after it. Any line is answered in any state.
+pub fn step(r: Roster, mut s: State, line: &[u8]) -> Outcome
+    ensures { λ o. ⌜ o ≡ spec.step r s (now (line .entry)) ⌝ }
+{
+    let entries: &[u64] = &s.entries.words;
+    let lengths: &[u8] = &s.entries.counts;
+    let past: &[u64] = &s.learned.words;
+    let reading = frame::read(line, TAKEN);
+    let v = judge(r, entries, lengths, past, s.learned.count, reading);
+    let answer = v.answer;
+    s.learned = latest(v.learns, v.learned, s.learned);
+    let stores = v.stores;
+    if !stores {
+        return Outcome {
+            answer,
+            supporters: v.supporters,
+            state: s,
+        };
+    }
+    let vote = reading.frame;
+    let arrived: &[u64] = &vote.words;
+    let h = first(arrived, wide(vote.n));
+    let mut words = s.entries.words;
+    let mut counts = s.entries.counts;
+    table::store(&mut words, &mut counts, wide(vote.sender), h);
+    let entered = Table { counts, words };
+    s.entries = entered;
+    Outcome {
+        answer,
+        supporters: v.supporters,
+        state: s,
     }
 }
 

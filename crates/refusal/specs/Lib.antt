@@ -3,3 +3,4 @@ pub mod Refusal
 pub mod Rules
 pub mod RulesLaws
 pub mod JudgedLaws
+pub mod AnswerLaws

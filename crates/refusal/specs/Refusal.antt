@@ -1,4 +1,4 @@
--- The refusals and their numbers.
+-- The refusals and what a step answers, with their numbers.
 use Prim.Native.Nat.{ℕ}
 use Rattle.refusal.specs.declared.Refusal.{Refusal}
 use Rattle.refusal.specs.declared.Refusal.the-variants.{
@@ -16,6 +16,8 @@ use Rattle.refusal.specs.declared.Refusal.the-variants.{
   Nothing,
   Full,
 }
+use Rattle.refusal.specs.declared.Answer.{Answer}
+use Rattle.refusal.specs.declared.Answer.the-variants.{Accepted, Refused}
 
 -- "Each returns its number only." The columns No. and Name of the table of refusals.
 abbrev pub number : Refusal → ℕ
@@ -32,3 +34,8 @@ number Contradiction = 10
 number Split = 11
 number Nothing = 12
 number Full = 13
+
+-- "An accepted frame answers 0", a refused one its refusal's number
+abbrev pub answerNumber : Answer → ℕ
+answerNumber Accepted = 0
+answerNumber (Refused e) = number e

@@ -1,4 +1,4 @@
-// The refusals, with the number that each returns.
+// The refusals and what a step answers, each with its number.
 ghost use mathlib.Core.Path.{_≡_};
 ghost use Rattle.refusal.specs.Refusal as spec;
 
@@ -37,5 +37,23 @@ pub fn number(r: Refusal) -> u8
         Refusal::Split => 11,
         Refusal::Nothing => 12,
         Refusal::Full => 13,
+    }
+}
+
+// What a step answers: accepted, or why not.
+pub enum Answer {
+    Accepted,
+    Refused(Refusal),
+}
+
+impl Answer {
+    // The answer's number: 0 for an accepted frame, else the refusal's.
+    pub fn number(self) -> u8
+        ensures { λ n. ⌜ n ≡ spec.answerNumber self ⌝ }
+    {
+        match self {
+            Answer::Accepted => 0,
+            Answer::Refused(e) => number(e),
+        }
     }
 }

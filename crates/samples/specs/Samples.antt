@@ -10,7 +10,8 @@ use Rattle.roster.specs.declared.Roster.{Roster}
 use Rattle.frame.specs.Layout.{withValues}
 use Rattle.frame.specs.Format.{lineOf, padded}
 use Rattle.learner.specs.declared.Outcome.{Outcome}
-use Rattle.learner.specs.Learner.{fresh, number}
+use Rattle.refusal.specs.Refusal.{answerNumber}
+use Rattle.learner.specs.Learner.{fresh}
 use Rattle.learner.specs.Run.{run, outcomes}
 
 -- A enrols slot 7, B revokes it; C and D raise slot 9.
@@ -36,7 +37,7 @@ vote site h = lineOf (withValues (7 ∷ site ∷ 0 ∷ 1 ∷ 0 ∷ 7 ∷ length 
 
 -- what a learner answers, and how many supporters it names
 abbrev pub answers : List Outcome → List (List ℕ)
-answers os = map (λ (o : Outcome). number (o .answer) ∷ o .supporters ∷ []) os
+answers os = map (λ (o : Outcome). answerNumber (o .answer) ∷ o .supporters ∷ []) os
 
 -- what a line of the table says
 pub data Sample : Type 0 where

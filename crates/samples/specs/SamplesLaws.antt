@@ -10,7 +10,7 @@ use Rattle.roster.specs.Sites.{countTo, allTo}
 use Rattle.roster.specs.Mask.{bit, reaches, beyond}
 use Rattle.roster.specs.Roster.{validRoster, quorum}
 use Rattle.command.specs.Command.{validArgument, validCommand, allValid, field, proposer, kind, serial, slot, argument, sameRequest, kindsTable, kindsConflict, conflict}
-use Rattle.history.specs.History.{Extends, Compatible, present, repeated, apart, free, least, without, ordered, canonical, equal, isCanonical, validHistory, comesOff, extends}
+use Rattle.history.specs.History.{Extends, Compatible, present, repeated, apart, free, least, without, ordered, canonical, equal, isCanonical, validHistory, improper, comesOff, extends}
 use Rattle.history.specs.Words.{commands, padded, validStored}
 use Rattle.history.specs.ExtensionLaws.{extends-sound, extends-refuted, and-left, and-right}
 use Rattle.history.specs.CanonicalLaws.{equal-true}
@@ -23,7 +23,7 @@ use Rattle.refusal.specs.Rules.{judged}
 use Rattle.frame.specs.Hex.{digit, isDigit, valueOf, allDigits, byteOf, numberFrom, digitsOf, spell, numbers, allFit, total}
 use Rattle.frame.specs.Kinds.{uses, isKind, zeroUnless, unusedZero}
 use Rattle.frame.specs.Format.{lineOf, proper, allZero, fits, writable, framed, frameOf, isLine, readingOf, malformed}
-use Rattle.learner.specs.Learner.{fresh, config, sender, stale, proof, wrong, improper, contradicts, counted, supporters, claimed, splits, overflows, after, step}
+use Rattle.learner.specs.Learner.{fresh, config, sender, stale, proof, wrong, contradicts, withVote, supporters, claimed, splits, overflows, after, step}
 use Rattle.learner.specs.Run.{run, outcomes}
 use Rattle.samples.specs.Samples.{A, B, C, D, Sample, order, extension, no-extension, merged, split, votes, four, answers, Holds, samples, AllHold, end, line}
 
@@ -102,5 +102,5 @@ unfolding
     judged
     digit isDigit valueOf allDigits byteOf numberFrom digitsOf spell numbers allFit total
     uses isKind zeroUnless unusedZero lineOf proper allZero fits writable framed frameOf isLine readingOf malformed
-    config sender stale proof wrong improper contradicts counted supporters claimed splits overflows after step run outcomes
+    config sender stale proof wrong improper contradicts withVote supporters claimed splits overflows after step run outcomes
 samples-hold = each samples refl

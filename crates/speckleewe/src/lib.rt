@@ -1,6 +1,6 @@
 // Everything that a C or Rust host calls: each function hands its arguments to the proved step of a role.
 ghost use mathlib.Core.Path.{_≡_};
-ghost use Rattle.learner.specs.Learner.{step};
+ghost use Rattle.learner.specs.Learner.{fresh, step};
 ghost use Rattle.speckleewe.specs.Outcomes.{learnerOutcome};
 use learner::State;
 use roster::Roster;
@@ -13,7 +13,15 @@ pub struct LearnerOutcome {
     pub state: State,
 }
 
-// One step of a learner.
+// A fresh learner: nothing stored, nothing learned.
+#[no_mangle]
+pub extern "C" fn learner_fresh() -> State
+    ensures { λ s. ⌜ s ≡ fresh ⌝ }
+{
+    State::fresh()
+}
+
+// One step of a learner. The line is passed as a pointer to its first byte and its length.
 #[no_mangle]
 pub extern "C" fn learner_step(roster: Roster, state: State, line: &[u8]) -> LearnerOutcome
     ensures { λ o. ⌜ o ≡ learnerOutcome (step roster state (now (line .entry))) ⌝ }

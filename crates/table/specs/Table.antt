@@ -44,6 +44,14 @@ withRow t i l = record { counts = set (t .counts) i (length l); words = sets (t 
 unfoldable pub storedAt : Table → ℕ → List ℕ → Table
 storedAt t i l = cond (ltb i sites && leb (length l) limit) (withRow t i l) t
 
+-- a table of these words and counts, and history l stored as row i of it; they stay where one of them is shorter than a table's
+abbrev pub tableOf : List ℕ → List ℕ → Table
+tableOf words counts = record { counts = counts; words = words }
+
+unfoldable pub storedIn : List ℕ → List ℕ → ℕ → List ℕ → Table
+storedIn words counts i l =
+    cond (leb sites (length counts) && leb (limit * sites) (length words)) (storedAt (tableOf words counts) i l) (tableOf words counts)
+
 -- row i emptied: the empty history stored there
 unfoldable pub emptiedAt : Table → ℕ → Table
 emptiedAt t i = storedAt t i []

@@ -13,7 +13,7 @@ use Rattle.roster.specs.SitesLaws.{lt-or-le, last-or-below}
 use Rattle.history.specs.Words.{limit, padded}
 use Rattle.history.specs.WordsLaws.{length-padded, take-padded}
 use Rattle.table.specs.declared.Table.{Table}
-use Rattle.table.specs.Table.{sites, inRange, row, rowOf, listTo, rows, withRow, storedAt, emptiedAt, emptyTable}
+use Rattle.table.specs.Table.{sites, inRange, row, rowOf, listTo, rows, withRow, storedAt, tableOf, storedIn, emptiedAt, emptyTable}
 
 -- ---- sizes
 
@@ -173,6 +173,20 @@ stored-past t i l p = rw (le-ltb i sites p)
 pub stored-long : (t : Table) (i : ℕ) (l : List ℕ) → limit < length l → storedAt t i l ≡ t
 unfolding storedAt
 stored-long t i l p = rw (lt-leb (length l) limit p, and-false)
+
+-- stored in lists, which have room for a table or not
+pub stored-in : (words counts : List ℕ) (i : ℕ) (l : List ℕ) → sites ≤ length counts → limit * sites ≤ length words
+    → storedIn words counts i l ≡ storedAt (tableOf words counts) i l
+unfolding storedIn
+stored-in words counts i l p q = rw (le-leb sites (length counts) p, le-leb (limit * sites) (length words) q)
+
+pub stored-few : (words counts : List ℕ) (i : ℕ) (l : List ℕ) → length counts < sites → storedIn words counts i l ≡ tableOf words counts
+unfolding storedIn
+stored-few words counts i l p = rw (lt-leb sites (length counts) p)
+
+pub stored-short : (words counts : List ℕ) (i : ℕ) (l : List ℕ) → length words < limit * sites → storedIn words counts i l ≡ tableOf words counts
+unfolding storedIn
+stored-short words counts i l p = rw (lt-leb (limit * sites) (length words) p, and-false)
 
 -- a property that the store has where it is done, and that the table has, is one of what is stored in any case
 module _ (P : Table → Type 0) (t : Table) (i : ℕ) (l : List ℕ) (same : P t) where

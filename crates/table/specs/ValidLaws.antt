@@ -1,7 +1,7 @@
 -- Laws of valid tables: what validity says of each row, and that stores of valid histories keep it.
 use mathlib.Core.Path.{_≡_, refl, sym, ap, _∙_, subst}
 use mathlib.Core.Logic.{_⊎_, ⊎-elim}
-use mathlib.Core.Bool.{true, cond}
+use mathlib.Core.Bool.{Bool, true, false, cond}
 use mathlib.Core.List.{List, []}
 use Prim.Native.Nat.{ℕ, _≤_, _<_}
 use native.Mathlib.Decide.{ℕ-discrete}
@@ -51,6 +51,15 @@ row-valid n t i v =
 -- ---- the table
 
 -- it is valid exactly where each row is
+-- a row without a count is empty, and may be lent
+pub valid-row-none : (n : ℕ) (words counts : List ℕ) (i : ℕ) → getD counts i 0 ≡ 0 → validRow n words counts i ≡ true
+unfolding validRow
+valid-row-none n words counts i e = rw (row-none words counts i e, e, valid-nil) (go (ltb i n))
+  where
+    go : (b : Bool) → cond b true true ≡ true
+    go true = refl
+    go false = refl
+
 pub valid-each : (n : ℕ) (t : Table) → validTable n t ≡ true → (i : ℕ) → i < sites → ValidRow n t i
 unfolding validTable
 valid-each n t e i p = valid-row n t i (all-each sites (validRow n (t .words) (t .counts)) e i p)

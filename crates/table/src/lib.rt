@@ -1,10 +1,6 @@
 // Tables of histories: sixteen rows of 32 words, one a site, with their counts.
 ghost use mathlib.Core.Path.{_≡_};
-ghost use Prim.Native.Nat.{_*_, _≤_, _<_};
-ghost use lib.ListN.{length};
-ghost use lib.Seq.{sets};
 ghost use Rattle.roster.specs.Sites.{allTo};
-ghost use Rattle.history.specs.Words.{limit, padded};
 ghost use Rattle.table.specs.Table.{sites};
 ghost use Rattle.table.specs.Table as spec;
 use history::History;
@@ -35,22 +31,36 @@ pub fn row<'a>(words: &'a [u64], counts: &'a [u8], site: usize) -> &'a [u64]
     &words[start..start + n]
 }
 
-// The words with row `site` filled: h, and zeros after it.
-fn with_row(mut words: [u64; 512], site: usize, h: &[u64]) -> [u64; 512]
-    requires { ⌜ (site < sites) × (length (now h) ≤ limit) ⌝ }
-    ensures { λ r. ⌜ r ≡ sets words (limit * site) (padded limit (now (h .entry))) ⌝ }
+// Stores h as row `site` of a table's words and counts; leaves both where there is no such row, where h is too long for one, or where one of
+// them is shorter than a table's.
+pub fn store(words: &mut [u64], counts: &mut [u8], site: usize, h: &[u64])
+    ensures { λ r. ⌜ spec.tableOf (now (words .exit)) (now (counts .exit)) ≡ spec.storedIn (now (words .entry)) (now (counts .entry)) site (now (h .entry)) ⌝ }
 {
-    let end = History::LIMIT * site + History::LIMIT;
-    let start = end - History::LIMIT;
-    history::fill(&mut words[start..end], h);
-    words
+    if counts.len() < Table::SITES {
+        return;
+    }
+    if words.len() < History::LIMIT * Table::SITES {
+        return;
+    }
+    if Table::SITES <= site {
+        return;
+    }
+    let len = h.len();
+    if History::LIMIT < len {
+        return;
+    }
+    counts[site] = len as u8;
+    let at = History::LIMIT * site;
+    history::fill(&mut words[at..at + History::LIMIT], h);
 }
 
-// Whether row `site` is one that lent state may hold, for n sites.
+// Whether row `site` is one that lent state may hold, for n sites. A row without a count is empty.
 fn row_valid<'a>(words: &'a [u64], counts: &'a [u8], site: usize, n: u8) -> bool
-    requires { ⌜ site < length (now counts) ⌝ }
     ensures { λ r. ⌜ r ≡ spec.validRow n (now (words .entry)) (now (counts .entry)) site ⌝ }
 {
+    if site >= counts.len() {
+        return true;
+    }
     let count = counts[site] as usize;
     if History::LIMIT < count {
         return false;
@@ -61,9 +71,8 @@ fn row_valid<'a>(words: &'a [u64], counts: &'a [u8], site: usize, n: u8) -> bool
     history::valid(row(words, counts, site))
 }
 
-// Whether every row is one that lent state may hold, for n sites.
-fn rows_valid<'a>(words: &'a [u64], counts: &'a [u8], n: u8) -> bool
-    requires { ⌜ length (now counts) ≡ sites ⌝ }
+// Whether every row of a table's words and counts is one that lent state may hold, for n sites.
+pub fn rows_valid<'a>(words: &'a [u64], counts: &'a [u8], n: u8) -> bool
     ensures { λ r. ⌜ r ≡ allTo sites (spec.validRow n (now (words .entry)) (now (counts .entry))) ⌝ }
 {
     let mut i: usize = 0;
@@ -95,18 +104,9 @@ impl Table {
     pub fn stored(self, site: usize, h: &[u64]) -> Table
         ensures { λ r. ⌜ r ≡ spec.storedAt self site (now (h .entry)) ⌝ }
     {
-        if Self::SITES <= site {
-            return self;
-        }
-        let len = h.len();
-        if History::LIMIT < len {
-            return self;
-        }
-        let old_counts = self.counts;
-        let old_words = self.words;
-        let mut counts = old_counts;
-        counts[site] = len as u8;
-        let words = with_row(old_words, site, h);
+        let mut counts = self.counts;
+        let mut words = self.words;
+        store(&mut words, &mut counts, site, h);
         Table { counts, words }
     }
 

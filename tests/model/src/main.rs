@@ -57,7 +57,14 @@ impl State {
 }
 
 extern "C" {
+    fn learner_fresh() -> State;
     fn learner_step(roster: Roster, state: State, line: *const u8, len: usize) -> Outcome;
+}
+
+/// The library's fresh state.
+fn library_fresh() -> State {
+    // SAFETY: no argument, and the result goes by value.
+    unsafe { learner_fresh() }
 }
 
 /// The step of the library.
@@ -170,6 +177,10 @@ fn report(seed: u64, frame: u64, call: &Call, want: &Outcome, got: &Outcome) {
 }
 
 fn compare(seed: u64, count: u64) -> bool {
+    if library_fresh() != State::fresh() {
+        println!("the library's fresh state is not empty");
+        return false;
+    }
     let mut rng = Rng(seed);
     let mut reached = Reached::default();
     let mut frames = 0;

@@ -1,39 +1,66 @@
 -- `learn::chunk` is safe and ends: the loop keeps that the index is within the bytes, and the lengths of the line and the output.
-use mathlib.Core.Path.{_≡_, ap, _∙_}
-use mathlib.Core.Logic.{⊎-elim}
+use mathlib.Core.Path.{_≡_}
 use Prim.Native.Nat.{_≤_, _-_}
-use native.Mathlib.Omega.{arith}
 use borrow.Author.Needs.{needs}
 use lib.ListN.{length}
 use Rattle.learn.proofs.chunk.Statement.{statement}
 use Rattle.learn.proofs.chunk.Tie as tie
 
 abbrev Inv-loop : tie.InvT-loop
-Inv-loop bytes line₀ out₀ next₀ len₀ i₀ line out next len i = (i ≤ length bytes) × (length line ≡ length line₀) × (length out ≡ length out₀)
+Inv-loop s bytes line₀ out₀ roster₀ state₀ started₀ len₀ output₀ i₀ line out roster state started len output i =
+    (i ≤ length bytes) × (length line ≡ length line₀) × (length out ≡ length out₀)
 
 abbrev μ-loop : tie.MeasureT-loop
-μ-loop bytes line₀ out₀ next₀ len₀ i₀ line out next len i = length bytes - i
+μ-loop s bytes line₀ out₀ roster₀ state₀ started₀ len₀ output₀ i₀ line out roster state started len output i =
+    length bytes - i
 
 loop-holds : tie.Need-loop-holds Inv-loop μ-loop
-loop-holds c = search needs
+loop-holds c = (search needs, search needs, search needs)
 
 shared-slice-read-b : tie.Need-shared-slice-read-b Inv-loop μ-loop
 shared-slice-read-b c = search needs
 
+add-i : tie.Need-add-i Inv-loop μ-loop
+add-i c = search needs
+
 push-requires : tie.Need-push-requires Inv-loop μ-loop
 push-requires c κs = search needs
 
-ended-requires : tie.Need-ended-requires Inv-loop μ-loop
-ended-requires c κs = search needs
+first-requires : tie.Need-first-requires Inv-loop μ-loop
+first-requires c κs = search needs
 
-add-i : tie.Need-add-i Inv-loop μ-loop
-add-i c = search needs
+step-requires : tie.Need-step-requires Inv-loop μ-loop
+step-requires c κs = search needs
+
+number-requires : tie.Need-number-requires Inv-loop μ-loop
+number-requires c κs = search needs
+
+answered-requires : tie.Need-answered-requires Inv-loop μ-loop
+answered-requires c κs = search needs
+
+first-requires-2 : tie.Need-first-requires-2 Inv-loop μ-loop
+first-requires-2 c κs = search needs
+
+roster-of-requires : tie.Need-roster-of-requires Inv-loop μ-loop
+roster-of-requires c κs = search needs
 
 loop-less : tie.Need-loop-less Inv-loop μ-loop
 loop-less c = search needs
 
 loop-again : tie.Need-loop-again Inv-loop μ-loop
-loop-again c = (search needs, search needs, ⊎-elim (λ w. ap length (w .6) ∙ w .3 .kept .1 .1 .1 .0 ∙ c .before .before .before .before .before .before .before .loop .inv .2) (λ w. ap length (w .1) ∙ c .before .before .before .before .before .before .before .loop .inv .2) (c .if1 .came))
+loop-again c = (search needs, search needs, search needs)
+
+loop-less-2 : tie.Need-loop-less-2 Inv-loop μ-loop
+loop-less-2 c = search needs
+
+loop-again-2 : tie.Need-loop-again-2 Inv-loop μ-loop
+loop-again-2 c = (search needs, search needs, search needs)
+
+loop-less-3 : tie.Need-loop-less-3 Inv-loop μ-loop
+loop-less-3 c = search needs
+
+loop-again-3 : tie.Need-loop-again-3 Inv-loop μ-loop
+loop-again-3 c = (search needs, search needs, search needs)
 
 flushed-requires : tie.Need-flushed-requires Inv-loop μ-loop
 flushed-requires c κs = search needs
@@ -55,11 +82,20 @@ chunk-spec =
     μ-loop
     loop-holds
     shared-slice-read-b
-    push-requires
-    ended-requires
     add-i
+    push-requires
+    first-requires
+    step-requires
+    number-requires
+    answered-requires
+    first-requires-2
+    roster-of-requires
     loop-less
     loop-again
+    loop-less-2
+    loop-again-2
+    loop-less-3
+    loop-again-3
     flushed-requires
     same-length
     same-length-2

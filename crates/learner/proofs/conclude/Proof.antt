@@ -2,8 +2,8 @@
 -- Assumes nothing.
 use mathlib.Core.Path.{_∙_}
 use borrow.Author.Needs.{needs}
-use Rattle.learner.specs.Learner.{supporters}
-use Rattle.learner.proofs.Tests.{conclude-learned, conclude-kept}
+use Rattle.learner.specs.Verdict.{standing}
+use Rattle.learner.proofs.Tests.{merge-enough, merge-few}
 use Rattle.learner.proofs.conclude.Statement.{statement}
 use Rattle.learner.proofs.conclude.Tie as tie
 
@@ -13,29 +13,28 @@ supporters-requires c κs = search needs
 quorum-requires : tie.Need-quorum-requires
 quorum-requires c κs = search needs
 
-cast-claimed : tie.Need-cast-claimed
-cast-claimed c = search needs
+cast-enough : tie.Need-cast-enough
+cast-enough c = search needs
 
 learn-requires : tie.Need-learn-requires
 learn-requires c κs = search needs
 
 returns : tie.Need-returns
-unfolding supporters
+unfolding standing
 returns c =
+    let given = c .before .before .before .before .before .before .before .before .args in
     let supporters-call = c .before .before .before .supporters in
     let quorum-call = c .before .before .quorum in
-    let if1 = c .before .if1 in
-    c .learn .ensures ∙ conclude-learned _ _ _ _ (supporters-call .result) (quorum-call .result) (supporters-call .ensures) (quorum-call .ensures) (if1 .taken)
+    c .learn .ensures ∙ merge-enough _ _ _ _ (given .site) _ _ (supporters-call .result) (quorum-call .result) (supporters-call .ensures) (quorum-call .ensures) (c .before .if1 .taken)
 
 returns-2 : tie.Need-returns-2
-unfolding supporters
+unfolding standing
 returns-2 c =
-    let supporters-call = c .before .before .before .supporters in
-    let quorum-call = c .before .before .quorum in
-    let if1 = c .before .if1 in
-    conclude-kept _ _ _ _ (supporters-call .result) (quorum-call .result) (supporters-call .ensures) (quorum-call .ensures) (if1 .left)
+    let given = c .before .before .before .before .before .before .before .args in
+    let supporters-call = c .before .before .supporters in
+    merge-few _ _ _ _ (given .site) _ _ (supporters-call .result) (c .before .quorum .result) (supporters-call .ensures) (c .before .quorum .ensures) (c .if1 .left)
 
 pub conclude-spec : {M : Type 1} → statement M
 conclude-spec =
     tie.close
-    (tie.spec supporters-requires quorum-requires cast-claimed learn-requires returns returns-2)
+    (tie.spec supporters-requires quorum-requires cast-enough learn-requires returns returns-2)

@@ -1,61 +1,83 @@
--- `learner::step` meets its contract: it asks the tests of CONFIG and FORM in their order, and hands on the frame that was read.
+-- `learner::step` meets its contract: it makes the outcome of the verdict on what it read, which is the step.
 -- Assumes nothing.
-use mathlib.Core.Path.{sym, _∙_}
+use mathlib.Core.Path.{sym, ap, _∙_}
+use mathlib.Core.List.{List}
+use lib.ListN.{take}
+use Prim.Native.Nat.{ℕ}
+use native.Mathlib.Omega.{arith}
 use borrow.Author.Needs.{needs}
 use borrow.Author.Tests.{not-true, not-false}
-use Rattle.refusal.specs.Rules.{judged}
-use Rattle.learner.specs.Learner.{step}
-use Rattle.learner.proofs.Tests.{step-form, step-vote}
+use Rattle.table.specs.TableLaws.{Sized}
+use Rattle.learner.specs.Learner.{arrived}
+use Rattle.learner.specs.Verdict.{settled}
+use Rattle.learner.specs.VerdictLaws.{settled-step}
+use Rattle.learner.proofs.Tests.{stored-is, settled-kept, settled-stored}
+use Rattle.table.specs.TableLaws.{Sized}
+use Rattle.learner.specs.declared.State.{State}
 use Rattle.learner.proofs.step.Statement.{statement}
 use Rattle.learner.proofs.step.Tie as tie
 
-config-requires : tie.Need-config-requires
-config-requires c κs = search needs
-
-refuse-requires : tie.Need-refuse-requires
-refuse-requires c κs = search needs
-
-returns : tie.Need-returns
-unfolding step judged
-returns c =
-    let config-call = c .before .before .config in
-    let if1 = c .before .if1 in
-    rw (sym (config-call .ensures) ∙ if1 .taken) (c .refuse .ensures)
+-- `learner::step` meets its contract: it makes the outcome of the verdict on what it read, which is the step.
+-- Assumes nothing.
 
 read-requires : tie.Need-read-requires
 read-requires c κs = search needs
 
-refuse-requires-2 : tie.Need-refuse-requires-2
-refuse-requires-2 c κs = search needs
+judge-requires : tie.Need-judge-requires
+judge-requires c κs = search needs
+
+latest-requires : tie.Need-latest-requires
+latest-requires c κs = search needs
+
+returns : tie.Need-returns
+returns c =
+    let m = c .before .before .before .before .read .result in
+    let sized : Sized (c .before .before .before .before .before .before .before .before .before .before .before .before .before .args .t2 .entries) = record { counts-length = search needs; words-length = search needs } in
+    settled-kept (c .before .before .before .before .before .before .before .before .before .before .before .before .before .args .t2) (m .frame .sender) (arrived (m .frame)) (c .before .before .before .judge .result) (c .before .latest .result) (c .before .latest .ensures) (not-true _ (c .if1 .taken))
+    ∙ ap (settled (c .before .before .before .before .before .before .before .before .before .before .before .before .before .args .t2) (m .frame .sender) (arrived (m .frame))) (c .before .before .before .judge .ensures)
+    ∙ settled-step (c .before .before .before .before .before .before .before .before .before .before .before .before .before .args .r) (c .before .before .before .before .before .before .before .before .before .before .before .before .before .args .t2) sized (c .before .before .before .before .before .before .before .before .before .before .before .before .before .args .line .now) m (c .before .before .before .before .read .ensures)
+
+wide-requires : tie.Need-wide-requires
+wide-requires c κs = search needs
+
+first-requires : tie.Need-first-requires
+first-requires c κs = search needs
+
+slice-aggregate-store : tie.Need-slice-aggregate-store
+slice-aggregate-store c = search needs
+
+slice-aggregate-store-2 : tie.Need-slice-aggregate-store-2
+slice-aggregate-store-2 c = search needs
+
+wide-requires-2 : tie.Need-wide-requires-2
+wide-requires-2 c κs = search needs
+
+store-requires : tie.Need-store-requires
+store-requires c κs = search needs
 
 returns-2 : tie.Need-returns-2
 returns-2 c =
-    let config-call = c .before .before .before .before .config in
-    let if1 = c .before .before .before .if1 in
-    let read-call = c .before .before .read in
-    let if2 = c .before .if2 in
-    c .refuse2 .ensures ∙ step-form _ _ _ (sym (config-call .ensures) ∙ if1 .left) (read-call .result) (read-call .ensures) (not-true _ (if2 .taken))
-
-vote-requires : tie.Need-vote-requires
-vote-requires c κs = search needs
-
-returns-3 : tie.Need-returns-3
-returns-3 c =
-    let config-call = c .before .before .before .before .before .config in
-    let if1 = c .before .before .before .before .if1 in
-    let read-call = c .before .before .before .read in
-    let if2 = c .before .before .if2 in
-    c .vote .ensures ∙ step-vote _ _ _ (sym (config-call .ensures) ∙ if1 .left) (read-call .result) (read-call .ensures) (not-false _ (if2 .left))
+    let m = c .before .before .before .before .before .before .before .before .before .before .before .before .before .before .before .before .before .before .read .result in
+    let s = c .before .before .before .before .before .before .before .before .before .before .before .before .before .before .before .before .before .before .before .before .before .before .before .before .before .before .before .args .t2 in
+    let sized : Sized (s .entries) = record { counts-length = search needs; words-length = search needs } in
+    settled-stored s (m .frame .sender) (arrived (m .frame)) (c .before .before .before .before .before .before .before .before .before .before .before .before .before .before .before .before .before .judge .result) (c .before .before .before .before .before .before .before .before .before .before .before .before .before .before .before .latest .result) (c .before .before .before .before .before .before .before .before .before .before .before .before .before .before .before .latest .ensures) _
+    (stored-is sized (c .before .before .store .ensures) (c .before .before .before .wide2 .ensures) (c .before .before .before .before .before .before .before .before .first .ensures ∙ ap (λ (k : ℕ). take k (m .frame .words)) (c .before .before .before .before .before .before .before .before .before .wide .ensures)))
+    (not-false _ (c .before .before .before .before .before .before .before .before .before .before .before .before .before .before .if1 .left))
+    ∙ ap (settled s (m .frame .sender) (arrived (m .frame))) (c .before .before .before .before .before .before .before .before .before .before .before .before .before .before .before .before .before .judge .ensures)
+    ∙ settled-step (c .before .before .before .before .before .before .before .before .before .before .before .before .before .before .before .before .before .before .before .before .before .before .before .before .before .before .before .args .r) s sized (c .before .before .before .before .before .before .before .before .before .before .before .before .before .before .before .before .before .before .before .before .before .before .before .before .before .before .before .args .line .now) m (c .before .before .before .before .before .before .before .before .before .before .before .before .before .before .before .before .before .before .read .ensures)
 
 pub step-spec : {M : Type 1} → statement M
 step-spec =
     tie.close
     (tie.spec
-    config-requires
-    refuse-requires
-    returns
     read-requires
-    refuse-requires-2
-    returns-2
-    vote-requires
-    returns-3)
+    judge-requires
+    latest-requires
+    returns
+    wide-requires
+    first-requires
+    slice-aggregate-store
+    slice-aggregate-store-2
+    wide-requires-2
+    store-requires
+    returns-2)

@@ -1,72 +1,59 @@
--- `learner::supporters` meets its contract: the loop keeps that the count is that of the rows looked at.
+-- `learner::supporters` meets its contract: the loop keeps that the count is that of the sites looked at.
 -- Assumes nothing.
 use Prim.Native.Nat.{ℕ, _≤_, _+_, _-_}
-use denote.Ref.{now}
 use native.Mathlib.Omega.{arith}
 use mathlib.Core.Path.{_≡_, sym, ap, _∙_}
 use borrow.Author.Needs.{needs}
 use Rattle.roster.specs.Sites.{countTo}
 use Rattle.roster.specs.SitesLaws.{count-zero, count-hit, count-miss, count-le}
-use Rattle.learner.specs.Learner.{backs}
-use Rattle.learner.proofs.Tests.{backs-is}
+use Rattle.learner.specs.Verdict.{stands}
 use Rattle.learner.proofs.supporters.Statement.{statement}
 use Rattle.learner.proofs.supporters.Tie as tie
 
 abbrev Inv-loop : tie.InvT-loop
-Inv-loop words counts n h count₀ next₀ count next = (next ≤ n) × (count ≡ countTo next (backs words counts h))
+Inv-loop words counts n site h count₀ next₀ count next = (next ≤ n) × (count ≡ countTo next (stands words counts site h))
 
 abbrev μ-loop : tie.MeasureT-loop
-μ-loop words counts n h count₀ next₀ count next = n - next
+μ-loop words counts n site h count₀ next₀ count next = n - next
 
 loop-holds : tie.Need-loop-holds Inv-loop μ-loop
 loop-holds c = (search needs, sym (count-zero _))
 
-cast-row : tie.Need-cast-row Inv-loop μ-loop
-cast-row c = search needs
-
-row-requires : tie.Need-row-requires Inv-loop μ-loop
-row-requires c κs = search needs
-
-extends-requires : tie.Need-extends-requires Inv-loop μ-loop
-extends-requires c κs = search needs
+stands-requires : tie.Need-stands-requires Inv-loop μ-loop
+stands-requires c κs = search needs
 
 add-next : tie.Need-add-next Inv-loop μ-loop
 add-next c = search needs
 
 add-count : tie.Need-add-count Inv-loop μ-loop
 add-count c =
-    let given = c .before .before .before .before .before .before .before .before .args in
-    let turn = c .before .before .before .before .loop in
-    omega (arith, count-le (turn .next) (backs (given .words .now) (given .counts .now) (given .h .now)))
+    let turn = c .before .before .before .loop in
+    let given = c .before .before .before .before .before .before .before .args in
+    omega (arith, count-le (turn .next) (stands (given .words .now) (given .counts .now) (given .site) (given .h .now)))
 
 loop-less : tie.Need-loop-less Inv-loop μ-loop
 loop-less c = search needs
 
 loop-again : tie.Need-loop-again Inv-loop μ-loop
 loop-again c =
-    let given = c .before .before .before .before .before .before .before .before .args in
-    let turn = c .before .before .before .before .loop in
-    let row-call = c .before .before .row in
-    let extends-call = c .before .extends in
-    (search needs, ap (λ (k : ℕ). k + 1) (turn .inv .1) ∙ sym (count-hit (turn .next) (backs (given .words .now) (given .counts .now) (given .h .now)) (backs-is (given .words .now) (given .counts .now) (given .h .now) (turn .next) (now (row-call .result)) (extends-call .result) (row-call .ensures) (extends-call .ensures) ∙ c .if1 .taken)))
+    let turn = c .before .before .before .loop in
+    let given = c .before .before .before .before .before .before .before .args in
+    (search needs, ap (λ (k : ℕ). k + 1) (turn .inv .1) ∙ sym (count-hit (turn .next) (stands (given .words .now) (given .counts .now) (given .site) (given .h .now)) (sym (c .before .stands .ensures) ∙ c .if1 .taken)))
 
 loop-less-2 : tie.Need-loop-less-2 Inv-loop μ-loop
 loop-less-2 c = search needs
 
 loop-again-2 : tie.Need-loop-again-2 Inv-loop μ-loop
 loop-again-2 c =
-    let given = c .before .before .before .before .before .before .before .before .args in
-    let turn = c .before .before .before .before .loop in
-    let row-call = c .before .before .row in
-    let extends-call = c .before .extends in
-    (search needs, turn .inv .1 ∙ sym (count-miss (turn .next) (backs (given .words .now) (given .counts .now) (given .h .now)) (backs-is (given .words .now) (given .counts .now) (given .h .now) (turn .next) (now (row-call .result)) (extends-call .result) (row-call .ensures) (extends-call .ensures) ∙ c .if1 .left)))
+    let turn = c .before .before .before .loop in
+    let given = c .before .before .before .before .before .before .before .args in
+    (search needs, turn .inv .1 ∙ sym (count-miss (turn .next) (stands (given .words .now) (given .counts .now) (given .site) (given .h .now)) (sym (c .before .stands .ensures) ∙ c .if1 .left)))
 
 returns : tie.Need-returns Inv-loop μ-loop
 returns c =
     let given = c .before .before .before .before .before .args in
-    let turn = c .before .loop in
-    let end : turn .next ≡ given .n = omega arith in
-    turn .inv .1 ∙ ap (λ (k : ℕ). countTo k (backs (given .words .now) (given .counts .now) (given .h .now))) end
+    let end : c .before .loop .next ≡ given .n = omega arith in
+    c .before .loop .inv .1 ∙ ap (λ (k : ℕ). countTo k (stands (given .words .now) (given .counts .now) (given .site) (given .h .now))) end
 
 pub supporters-spec : {M : Type 1} → statement M
 supporters-spec =
@@ -75,9 +62,7 @@ supporters-spec =
     Inv-loop
     μ-loop
     loop-holds
-    cast-row
-    row-requires
-    extends-requires
+    stands-requires
     add-next
     add-count
     loop-less

@@ -1,36 +1,40 @@
--- `learner::vote` meets its contract: it asks the tests of SENDER, STALE and PROOF in their order, and hands on the history.
+-- `learner::vote` meets its contract: it asks the tests of SENDER, STALE and PROOF in their order, and hands on the first n of the frame's words.
 -- Assumes nothing.
 use mathlib.Core.Path.{sym, ap, _∙_}
+use mathlib.Core.List.{List}
+use Prim.Native.Nat.{ℕ}
+use native.Mathlib.Omega.{arith}
 use borrow.Author.Needs.{needs}
 use borrow.Author.Tests.{not-true, not-false}
+use lib.ListN.{length-take}
 use Rattle.roster.specs.Mask.{reaches}
 use Rattle.refusal.specs.Rules.{judged}
 use Rattle.learner.specs.Learner.{sender, stale, proof}
+use Rattle.learner.specs.Verdict.{onHistory}
 use Rattle.learner.proofs.vote.Statement.{statement}
 use Rattle.learner.proofs.vote.Tie as tie
 
-refuse-requires : tie.Need-refuse-requires
-refuse-requires c κs = search needs
+against-requires : tie.Need-against-requires
+against-requires c κs = search needs
 
 returns : tie.Need-returns
 unfolding judged sender
-returns c = rw (c .before .if1 .taken) (c .refuse .ensures)
+returns c = rw (c .before .if1 .taken) (c .against .ensures)
 
-refuse-requires-2 : tie.Need-refuse-requires-2
-refuse-requires-2 c κs = search needs
+against-requires-2 : tie.Need-against-requires-2
+against-requires-2 c κs = search needs
 
 returns-2 : tie.Need-returns-2
 unfolding judged sender stale
 returns-2 c =
     let if1 = c .before .before .before .before .if1 in
-    let if2 = c .before .if2 in
-    rw (if1 .left, if2 .taken) (c .refuse2 .ensures)
+    rw (if1 .left, c .before .if2 .taken) (c .against2 .ensures)
 
 beyond-requires : tie.Need-beyond-requires
 beyond-requires c κs = search needs
 
-refuse-requires-3 : tie.Need-refuse-requires-3
-refuse-requires-3 c κs = search needs
+against-requires-3 : tie.Need-against-requires-3
+against-requires-3 c κs = search needs
 
 returns-3 : tie.Need-returns-3
 unfolding judged sender stale proof
@@ -38,8 +42,7 @@ returns-3 c =
     let if1 = c .before .before .before .before .before .before .if1 in
     let if2 = c .before .before .before .if2 in
     let beyond-call = c .before .before .beyond in
-    let if3 = c .before .if3 in
-    rw (if1 .left, if2 .left, sym (beyond-call .ensures) ∙ if3 .taken) (c .refuse3 .ensures)
+    rw (if1 .left, if2 .left, sym (beyond-call .ensures) ∙ c .before .if3 .taken) (c .against3 .ensures)
 
 quorum-requires : tie.Need-quorum-requires
 quorum-requires c κs = search needs
@@ -47,52 +50,59 @@ quorum-requires c κs = search needs
 reaches-requires : tie.Need-reaches-requires
 reaches-requires c κs = search needs
 
-refuse-requires-4 : tie.Need-refuse-requires-4
-refuse-requires-4 c κs = search needs
+against-requires-4 : tie.Need-against-requires-4
+against-requires-4 c κs = search needs
 
 returns-4 : tie.Need-returns-4
 unfolding judged sender stale proof
 returns-4 c =
-    let given = c .before .before .before .before .before .before .before .before .before .before .before .before .args in
     let if1 = c .before .before .before .before .before .before .before .before .before .if1 in
     let if2 = c .before .before .before .before .before .before .if2 in
     let beyond-call = c .before .before .before .before .before .beyond in
     let if3 = c .before .before .before .before .if3 in
-    let quorum-call = c .before .before .before .quorum in
     let reaches-call = c .before .before .reaches in
-    let if4 = c .before .if4 in
-    rw (if1 .left, if2 .left, sym (beyond-call .ensures) ∙ if3 .left, sym (reaches-call .ensures ∙ ap (reaches (given .v .mask)) (quorum-call .ensures)) ∙ not-true _ (if4 .taken)) (c .refuse4 .ensures)
+    let given = c .before .before .before .before .before .before .before .before .before .before .before .before .before .before .args in
+    let quorum-call = c .before .before .before .quorum in
+    rw (if1 .left, if2 .left, sym (beyond-call .ensures) ∙ if3 .left, sym (reaches-call .ensures ∙ ap (reaches (given .t5 .mask)) (quorum-call .ensures)) ∙ not-true _ (c .before .if4 .taken)) (c .against4 .ensures)
 
-arrive-requires : tie.Need-arrive-requires
-arrive-requires c κs = search needs
+cast-first : tie.Need-cast-first
+cast-first c = search needs
+
+first-requires : tie.Need-first-requires
+first-requires c κs = search needs
+
+inspect-requires : tie.Need-inspect-requires
+inspect-requires c κs = rw (c .first .ensures, length-take) (omega arith)
 
 returns-5 : tie.Need-returns-5
 unfolding judged sender stale proof
 returns-5 c =
-    let given = c .before .before .before .before .before .before .before .before .before .before .before .before .args in
-    let if1 = c .before .before .before .before .before .before .before .before .before .if1 in
-    let if2 = c .before .before .before .before .before .before .if2 in
-    let beyond-call = c .before .before .before .before .before .beyond in
-    let if3 = c .before .before .before .before .if3 in
-    let quorum-call = c .before .before .before .quorum in
-    let reaches-call = c .before .before .reaches in
-    let if4 = c .before .if4 in
-    rw (if1 .left, if2 .left, sym (beyond-call .ensures) ∙ if3 .left, sym (reaches-call .ensures ∙ ap (reaches (given .v .mask)) (quorum-call .ensures)) ∙ not-false _ (if4 .left)) (c .arrive .ensures)
+    let if1 = c .before .before .before .before .before .before .before .before .before .before .before .before .before .if1 in
+    let if2 = c .before .before .before .before .before .before .before .before .before .before .if2 in
+    let beyond-call = c .before .before .before .before .before .before .before .before .before .beyond in
+    let if3 = c .before .before .before .before .before .before .before .before .if3 in
+    let reaches-call = c .before .before .before .before .before .before .reaches in
+    let given = c .before .before .before .before .before .before .before .before .before .before .before .before .before .before .before .before .before .before .args in
+    let quorum-call = c .before .before .before .before .before .before .before .quorum in
+    let if4 = c .before .before .before .before .before .if4 in
+    rw (if1 .left, if2 .left, sym (beyond-call .ensures) ∙ if3 .left, sym (reaches-call .ensures ∙ ap (reaches (given .t5 .mask)) (quorum-call .ensures)) ∙ not-false _ (if4 .left)) (c .inspect .ensures ∙ ap (λ (h : List ℕ). onHistory (given .r) (given .words .now) (given .counts .now) (given .learned .now) (given .t5 .sender) h) (c .before .first .ensures))
 
 pub vote-spec : {M : Type 1} → statement M
 vote-spec =
     tie.close
     (tie.spec
-    refuse-requires
+    against-requires
     returns
-    refuse-requires-2
+    against-requires-2
     returns-2
     beyond-requires
-    refuse-requires-3
+    against-requires-3
     returns-3
     quorum-requires
     reaches-requires
-    refuse-requires-4
+    against-requires-4
     returns-4
-    arrive-requires
+    cast-first
+    first-requires
+    inspect-requires
     returns-5)

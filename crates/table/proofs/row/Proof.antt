@@ -20,13 +20,17 @@ slice-aggregate-result-2 : tie.Need-slice-aggregate-result-2
 slice-aggregate-result-2 c = search needs
 
 returns-2 : tie.Need-returns-2
-returns-2 c = sym (row-short _ _ (c .before .before .before .args .site) (omega arith))
+returns-2 c =
+    let given = c .before .before .before .args in
+    sym (row-short _ _ (given .site) (omega arith))
 
 shared-slice-read-n : tie.Need-shared-slice-read-n
 shared-slice-read-n c = search needs
 
 cast-n : tie.Need-cast-n
-cast-n c = omega (arith, c .shared-slice-known .given (c .before .before .before .args .site))
+cast-n c =
+    let given = c .before .before .before .args in
+    omega (arith, c .shared-slice-known .given (given .site))
 
 slice-aggregate-result-3 : tie.Need-slice-aggregate-result-3
 slice-aggregate-result-3 c = search needs

@@ -1,4 +1,4 @@
--- `table::Table::is_valid` meets its contract: `rows_valid` asks every row, and a table has the sixteen counts that it requires.
+-- `table::Table::is_valid` meets its contract: `rows_valid` asks every row of its words and counts.
 -- Assumes nothing.
 use Rattle.table.specs.Table.{validTable}
 use borrow.Author.Needs.{needs}

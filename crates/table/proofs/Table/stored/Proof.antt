@@ -1,33 +1,27 @@
--- `table::Table::stored` meets its contract: it returns early exactly where the table stays, and past that sets the count and the row's words.
+-- `table::Table::stored` meets its contract: copies of a table's two arrays are as long as `store` asks, and it stores the row in them.
 -- Assumes nothing.
-use mathlib.Core.Path.{sym}
+use mathlib.Core.Path.{_∙_}
 use native.Mathlib.Omega.{arith}
-use Rattle.table.specs.TableLaws.{stored-is, stored-past, stored-long}
+use Rattle.table.specs.TableLaws.{stored-in}
 use borrow.Author.Needs.{needs}
 use Rattle.table.proofs.Table.stored.Statement.{statement}
 use Rattle.table.proofs.Table.stored.Tie as tie
 
+slice-aggregate-store : tie.Need-slice-aggregate-store
+slice-aggregate-store c = search needs
+
+slice-aggregate-store-2 : tie.Need-slice-aggregate-store-2
+slice-aggregate-store-2 c = search needs
+
+store-requires : tie.Need-store-requires
+store-requires c κs = search needs
+
 returns : tie.Need-returns
-returns c = sym (stored-past _ _ _ (c .if1 .taken))
-
-returns-2 : tie.Need-returns-2
-returns-2 c = sym (stored-long _ _ _ (c .if2 .taken))
-
-cast-counts : tie.Need-cast-counts
-cast-counts c = search needs
-
-array-write-counts : tie.Need-array-write-counts
-array-write-counts c = search needs
-
-with-row-requires : tie.Need-with-row-requires
-with-row-requires c κs = search needs
-
-returns-3 : tie.Need-returns-3
-returns-3 c =
-    let at = c .before .before .before .before .before .before .args in
-    rw (stored-is (at .self) (at .site) (at .h .now) (omega arith) (c .before .before .before .if2 .left)) (cc)
+returns c =
+    let store-call = c .before .before .store in
+    let given = c .before .before .before .before .before .before .before .before .args in
+    store-call .ensures ∙ stored-in (given .self .words) (given .self .counts) _ _ (omega arith) (omega arith)
 
 pub stored-spec : {M : Type 1} → statement M
 stored-spec =
-    tie.close
-    (tie.spec returns returns-2 cast-counts array-write-counts with-row-requires returns-3)
+    tie.close (tie.spec slice-aggregate-store slice-aggregate-store-2 store-requires returns)

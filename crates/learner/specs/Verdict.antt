@@ -1,0 +1,112 @@
+-- The verdict on a vote: what is decided of it before the new state is made, from the parts of the state that the code lends. The supporters are
+-- counted among the entries as they were, the sender being one of them once its vote is in.
+use mathlib.Core.Bool.{Bool, true, false, not, cond, _&&_, _||_}
+use mathlib.Core.List.{List, [], _∷_}
+use Prim.Native.Nat.{ℕ}
+use lib.Dec.{leb, eqb}
+use lib.ListN.{take, replicate}
+use Rattle.roster.specs.declared.Roster.{Roster}
+use Rattle.roster.specs.Roster.{quorum}
+use Rattle.roster.specs.Sites.{countTo}
+use Rattle.history.specs.declared.History.{History}
+use Rattle.history.specs.History.{extends}
+use Rattle.history.specs.Words.{limit}
+use Rattle.merge.specs.Merged.{merged}
+use Rattle.table.specs.Table.{row, tableOf, storedAt}
+use Rattle.refusal.specs.declared.Refusal.{Refusal}
+use Rattle.refusal.specs.declared.Refusal.the-variants.{Config, Form, Contradiction, Split, Full}
+use Rattle.refusal.specs.declared.Answer.the-variants.{Accepted, Refused}
+use Rattle.refusal.specs.Rules.{Rule, _gives_, judged}
+use Rattle.frame.specs.declared.Frame.{Frame}
+use Rattle.frame.specs.declared.Reading.{Reading}
+use Rattle.learner.specs.declared.State.{State}
+use Rattle.learner.specs.declared.Verdict.{Verdict}
+use Rattle.learner.specs.declared.Outcome.{Outcome}
+use Rattle.learner.specs.Learner.{backs, config, contradicts, historyRules, voteRules, arrived}
+
+-- a state of these parts: the entries' words and counts, and what is learned
+abbrev pub stateOf : List ℕ → List ℕ → List ℕ → ℕ → State
+stateOf words counts past count = record { entries = tableOf words counts; learned = record { count = count; words = past } }
+
+-- whether site i stands behind h once `site` has voted for it
+abbrev pub stands : List ℕ → List ℕ → ℕ → List ℕ → ℕ → Bool
+stands words counts site h i = eqb i site || backs words counts h i
+
+-- how many sites do, and whether they are N-f or more
+unfoldable pub standing : Roster → List ℕ → List ℕ → ℕ → List ℕ → ℕ
+standing r words counts site h = countTo (r .n) (stands words counts site h)
+
+unfoldable pub enough : Roster → List ℕ → List ℕ → ℕ → List ℕ → Bool
+enough r words counts site h = leb (quorum r) (standing r words counts site h)
+
+-- where nothing is learned
+abbrev pub none : History
+none = record { count = 0; words = replicate limit 0 }
+
+-- refused
+abbrev pub against : Refusal → Verdict
+against e = record { answer = Refused e; supporters = 0; stores = false; learns = false; learned = none }
+
+-- accepted and merged with what was learned, l, with k supporters; or refused by SPLIT or FULL
+abbrev pub merging : List ℕ → List ℕ → Bool → ℕ → Verdict
+merging l h stores k =
+    judged against (record { answer = Accepted; supporters = k; stores = stores; learns = true; learned = merged limit l h .history })
+    (merged limit l h .split gives Split ∷ merged limit l h .full gives Full ∷ [])
+
+-- accepted, and merged if there are enough supporters
+unfoldable pub favour : Roster → List ℕ → List ℕ → List ℕ → ℕ → List ℕ → Bool → Verdict
+favour r words counts l site h stores =
+    record {
+      answer = Accepted;
+      supporters = standing r words counts site h;
+      stores = stores;
+      learns = enough r words counts site h;
+      learned = cond (enough r words counts site h) (merged limit l h .history) none;
+    }
+
+-- stored if it extends the sender's entry
+abbrev pub favoured : Roster → List ℕ → List ℕ → List ℕ → ℕ → List ℕ → Verdict
+favoured r words counts l site h = favour r words counts l site h (extends h (row words counts site))
+
+-- the checks of the merge
+abbrev pub unionRules : Roster → List ℕ → List ℕ → List ℕ → ℕ → List ℕ → List Rule
+unionRules r words counts l site h =
+    (enough r words counts site h && merged limit l h .split) gives Split ∷
+    (enough r words counts site h && merged limit l h .full) gives Full ∷ []
+
+-- the verdict on a vote that contradicts nothing; on one of a proper history; on one with its certificate; on any; and on what was read of a line
+abbrev pub onMerge : Roster → List ℕ → List ℕ → List ℕ → ℕ → List ℕ → Bool → Verdict
+onMerge r words counts l site h stores = judged against (favour r words counts l site h stores) (unionRules r words counts l site h)
+
+abbrev pub onEntry : Roster → List ℕ → List ℕ → List ℕ → ℕ → List ℕ → Verdict
+onEntry r words counts l site h =
+    judged against (favoured r words counts l site h) (contradicts (row words counts site) h gives Contradiction ∷ unionRules r words counts l site h)
+
+abbrev pub onHistory : Roster → List ℕ → List ℕ → List ℕ → ℕ → List ℕ → Verdict
+onHistory r words counts l site h =
+    judged against (favoured r words counts l site h) (historyRules (row words counts site) h (unionRules r words counts l site h))
+
+-- the checks of a vote, with the supporters counted as here
+abbrev pub checks : Roster → List ℕ → List ℕ → List ℕ → Frame → List Rule
+checks r words counts l v = voteRules r (row words counts (v .sender)) v (unionRules r words counts l (v .sender) (arrived v))
+
+abbrev pub onVote : Roster → List ℕ → List ℕ → List ℕ → Frame → Verdict
+onVote r words counts l v = judged against (favoured r words counts l (v .sender) (arrived v)) (checks r words counts l v)
+
+abbrev pub onReading : Roster → List ℕ → List ℕ → List ℕ → ℕ → Reading → Verdict
+onReading r words counts past count m =
+    judged against (favoured r words counts (take count past) (m .frame .sender) (arrived (m .frame)))
+    (config r (stateOf words counts past count) gives Config ∷ not (m .found) gives Form ∷ checks r words counts (take count past) (m .frame))
+
+-- the outcome of a verdict on h from `site` in state s
+abbrev pub settled : State → ℕ → List ℕ → Verdict → Outcome
+settled s site h v =
+    record {
+      answer = v .answer;
+      supporters = v .supporters;
+      state =
+          record {
+            entries = cond (v .stores) (storedAt (s .entries) site h) (s .entries);
+            learned = cond (v .learns) (v .learned) (s .learned);
+          };
+    }

@@ -1,0 +1,5 @@
+-- What the contracts of `site` cite, and the laws of it.
+pub mod Site
+pub mod Reply
+pub mod SiteLaws
+pub mod ReplyLaws

@@ -1,0 +1,21 @@
+-- A site: its roster, its own number and the buffer lent to it; and the view-change record.
+use mathlib.Core.Bool.{Bool, not, _&&_}
+use Prim.Native.Nat.{ℕ}
+use lib.Dec.{leb, ltb}
+use Rattle.roster.specs.declared.Roster.{Roster}
+use Rattle.roster.specs.Roster.{validRoster}
+use Rattle.roster.specs.Mask.{beyond}
+use Rattle.frame.specs.Layout.{longest}
+use Rattle.site.specs.declared.ViewRecord.{ViewRecord}
+
+-- CONFIG is none of these: "roster outside the figures above; own number ≥ N or output buffer under 1,061 bytes (the longest line)"
+unfoldable pub seated : Roster → ℕ → ℕ → Bool
+seated r own room = validRoster r && (ltb own (r .n) && leb longest room)
+
+-- nor, of the record, "a mask bit at N or above"
+unfoldable pub validRecord : ℕ → ViewRecord → Bool
+validRecord n v = not (beyond (v .suspicions) n) && not (beyond (v .changes) n)
+
+-- "the view-change record at 0"
+abbrev pub fresh : ViewRecord
+fresh = record { view = record { 0 = 0 }; suspicions = 0; target = record { 0 = 0 }; changes = 0 }
