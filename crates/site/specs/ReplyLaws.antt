@@ -1,15 +1,17 @@
 -- What is sent is the frame's line, where the frame has one and there is room for the longest.
-use mathlib.Core.Path.{_≡_}
-use mathlib.Core.Bool.{true}
+use mathlib.Core.Path.{_≡_, refl, sym, ap, _∙_}
+use mathlib.Core.Bool.{Bool, true, false}
 use mathlib.Core.List.{List, _++_}
-use Prim.Native.Nat.{ℕ, _≤_}
+use Prim.Native.Nat.{ℕ, _≤_, _<_}
 use native.Mathlib.Omega.{arith}
 use lib.ListN.{length, take, drop}
 use Rattle.frame.specs.declared.Frame.{Frame}
 use Rattle.frame.specs.Layout.{longest, lineLength, count}
-use Rattle.frame.specs.Format.{lineOf, writable, writtenLength, written}
+use Rattle.roster.specs.SitesLaws.{and-left}
+use Rattle.frame.specs.Format.{lineOf, frameOf, writable, hasRoom, writtenLength, written}
+use Rattle.frame.specs.FormatLaws.{frame-of-line}
 use Rattle.frame.specs.InverseLaws.{longest-room, written-front}
-use Rattle.site.specs.Reply.{silent, sends, lengthSent, buffer}
+use Rattle.site.specs.Reply.{Sending, silent, sends, lengthSent, buffer}
 
 -- silence is no frame, and one frame is sent where two are equal as sent
 pub silent-sends : {m : Frame} → silent ≡ sends m → ⊥
@@ -29,3 +31,16 @@ unfolding writtenLength written
 sent-line m out w h =
     let room = longest-room m w (length out) h in
     record { size = rw room; output = rw room; front = written-front m out room }
+
+-- the bytes sent, if any, are the line of the frame to send
+pub data Wrote (m : Sending) (line : List ℕ) : Type 0 where
+  wrote : {f : Frame} → m ≡ sends f → frameOf line ≡ f → Wrote m line
+
+pub sent-frame : (m : Sending) (out line : List ℕ) → 0 < lengthSent m out → take (lengthSent m out) (buffer m out) ≡ line → Wrote m line
+unfolding writtenLength hasRoom
+sent-frame silent out line p e = absurd (omega arith)
+sent-frame (sends f) out line p e = go (hasRoom f (length out)) refl
+  where
+    go : (b : Bool) → hasRoom f (length out) ≡ b → Wrote (sends f) line
+    go true h = wrote refl (ap frameOf (sym e ∙ written-front f out h) ∙ frame-of-line f (and-left (writable f) _ h))
+    go false h = absurd (omega (arith, rw h at p))

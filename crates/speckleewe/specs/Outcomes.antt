@@ -1,7 +1,12 @@
 -- What the exported functions answer: the roles' outcomes, with the number of the answer in its place.
-use Rattle.learner.specs.declared.Outcome.{Outcome}
 use Rattle.refusal.specs.Refusal.{answerNumber}
+use Rattle.learner.specs.declared.Outcome.{Outcome}
+use Rattle.viewchange.specs.declared.Outcome as change
 use Rattle.speckleewe.specs.declared.LearnerOutcome.{LearnerOutcome}
+use Rattle.speckleewe.specs.declared.ViewChangeOutcome.{ViewChangeOutcome}
 
 abbrev pub learnerOutcome : Outcome → LearnerOutcome
 learnerOutcome o = record { answer = answerNumber (o .answer); supporters = o .supporters; state = o .state }
+
+abbrev pub viewChangeOutcome : change.Outcome → ViewChangeOutcome
+viewChangeOutcome o = record { answer = answerNumber (o .answer); sent = o .sent; views = o .views }

@@ -1,9 +1,13 @@
-// Everything that a C or Rust host calls: each function hands its arguments to the proved step of a role.
+// Everything that a C or Rust host calls: each function hands its arguments to the proved step of a role. A slice is passed as a pointer to its
+// first byte and its length.
 ghost use mathlib.Core.Path.{_≡_};
-ghost use Rattle.learner.specs.Learner.{fresh, step};
-ghost use Rattle.speckleewe.specs.Outcomes.{learnerOutcome};
+ghost use Rattle.learner.specs.Learner as learning;
+ghost use Rattle.site.specs.Site as views;
+ghost use Rattle.viewchange.specs.ViewChange as change;
+ghost use Rattle.speckleewe.specs.Outcomes.{learnerOutcome, viewChangeOutcome};
 use learner::State;
 use roster::Roster;
+use site::ViewRecord;
 
 // What a learner's step answers: the answer's number, the supporters, and the state after it.
 #[repr(C)]
@@ -13,18 +17,26 @@ pub struct LearnerOutcome {
     pub state: State,
 }
 
+// What a step of the view change answers: the answer's number, how many bytes of the buffer are to be sent, and the record after it.
+#[repr(C)]
+pub struct ViewChangeOutcome {
+    pub answer: u8,
+    pub sent: usize,
+    pub views: ViewRecord,
+}
+
 // A fresh learner: nothing stored, nothing learned.
 #[no_mangle]
 pub extern "C" fn learner_fresh() -> State
-    ensures { λ s. ⌜ s ≡ fresh ⌝ }
+    ensures { λ s. ⌜ s ≡ learning.fresh ⌝ }
 {
     State::fresh()
 }
 
-// One step of a learner. The line is passed as a pointer to its first byte and its length.
+// One step of a learner.
 #[no_mangle]
 pub extern "C" fn learner_step(roster: Roster, state: State, line: &[u8]) -> LearnerOutcome
-    ensures { λ o. ⌜ o ≡ learnerOutcome (step roster state (now (line .entry))) ⌝ }
+    ensures { λ o. ⌜ o ≡ learnerOutcome (learning.step roster state (now (line .entry))) ⌝ }
 {
     let o = learner::step(roster, state, line);
     let answer = o.answer;
@@ -33,5 +45,34 @@ pub extern "C" fn learner_step(roster: Roster, state: State, line: &[u8]) -> Lea
         answer: answer.number(),
         supporters: o.supporters,
         state: after,
+    }
+}
+
+// A fresh view-change record: view 0, no suspicion, no target.
+#[no_mangle]
+pub extern "C" fn view_record_fresh() -> ViewRecord
+    ensures { λ v. ⌜ v ≡ views.fresh ⌝ }
+{
+    ViewRecord::fresh()
+}
+
+// One step of the view change of site `own`.
+#[no_mangle]
+pub extern "C" fn view_change_step(
+    roster: Roster,
+    own: u8,
+    views: ViewRecord,
+    line: &[u8],
+    out: &mut [u8],
+) -> ViewChangeOutcome
+    ensures { λ o. ⌜ (o ≡ viewChangeOutcome (change.returned roster own views (now (line .entry)) (now (out .entry)))) × (now (out .exit) ≡ change.output roster own views (now (line .entry)) (now (out .entry))) ⌝ }
+{
+    let o = viewchange::step(roster, own, views, line, out);
+    let answer = o.answer;
+    let after = o.views;
+    ViewChangeOutcome {
+        answer: answer.number(),
+        sent: o.sent,
+        views: after,
     }
 }

@@ -1,0 +1,185 @@
+-- What a vote does to the entries and to what is learned, and what SPLIT means: the facts that agreement rests on.
+use mathlib.Core.Path.{_≡_, refl, sym, ap, _∙_, subst}
+use mathlib.Core.Bool.{Bool, true, false, cond, true≢false}
+use mathlib.Core.List.{List, [], _∷_}
+use Prim.Native.Nat.{ℕ, _≤_, _<_}
+use native.Mathlib.Omega.{arith}
+use native.Mathlib.Decide.{ℕ-discrete}
+use borrow.Author.Tests.{leb-false, leb-true, eqb-true, not-false}
+use lib.ListN.{length, length-take}
+use Rattle.roster.specs.declared.Roster.{Roster}
+use Rattle.roster.specs.Roster.{quorum}
+use Rattle.roster.specs.Sites.{countTo}
+use Rattle.roster.specs.SitesLaws.{and-left, and-right}
+use Rattle.command.specs.Command.{allValid}
+use Rattle.history.specs.History.{Compatible, Least, improper, extends}
+use Rattle.history.specs.ValidLaws.{not-improper, proper-some}
+use Rattle.history.specs.Words.{limit, commands}
+use Rattle.history.specs.WordsLaws.{commands-stored, valid-stored-length}
+use Rattle.merge.specs.declared.Merged.{Merged}
+use Rattle.merge.specs.MergedLaws.{Answers, is-split, is-full, is-found, merged-answers}
+use Rattle.table.specs.declared.Table.{Table}
+use Rattle.table.specs.Table.{sites, rowOf}
+use Rattle.table.specs.TableLaws.{Sized, row-stored, row-stored-other}
+use Rattle.refusal.specs.declared.Refusal.{Refusal}
+use Rattle.refusal.specs.declared.Refusal.the-variants.{Split, Full}
+use Rattle.refusal.specs.declared.Answer.the-variants.{Refused}
+use Rattle.refusal.specs.AnswerLaws.{accepted-not-refused, refused-same}
+use Rattle.refusal.specs.Rules.{_gives_}
+use Rattle.refusal.specs.JudgedLaws.{GivenFirst, at-once, behind}
+use Rattle.frame.specs.declared.Frame.{Frame}
+use Rattle.frame.specs.Format.{readingOf, isLine, frameOf, malformed}
+use Rattle.frame.specs.FormatLaws.{found-line, found-taken, found-frame}
+use Rattle.learner.specs.declared.State.{State}
+use Rattle.learner.specs.declared.Outcome.{Outcome}
+use Rattle.learner.specs.Learner.{taken, form, vote, arrived, sender, wrong, withVote, supporters, claimed, union, splits, overflows, after, rules, step}
+use Rattle.learner.specs.StepLaws.{Accepts, Stepped, refuses, accepting, stepped, Sound, Arrived, taken-is, vote-count, vote-stored, vote-stays}
+
+-- ---- a vote that is heard
+
+-- a vote that passes the checks before those of the merge, as far as they matter here
+pub record Heard (r : Roster) (line : List ℕ) : Type 0 where
+  pub framed : form line ≡ false
+  pub from-site : sender r (vote line) ≡ false
+  pub right : wrong (arrived (vote line)) ≡ false
+  pub proper : improper (arrived (vote line)) ≡ false
+
+pub accepted-heard : {r : Roster} {s : State} {line : List ℕ} → Accepts r s line → Heard r line
+accepted-heard a = record { framed = a .framed; from-site = a .from-site; right = a .right; proper = a .proper }
+
+module _ {r : Roster} {line : List ℕ} (a : Heard r line) where
+  found : readingOf line taken .found ≡ true
+  unfolding malformed
+  found = not-false (readingOf line taken .found) (a .framed)
+
+  -- it is a line, and the vote is its frame
+  pub heard-line : isLine line ≡ true
+  heard-line = found-line line taken found
+
+  pub heard-frame : vote line ≡ frameOf line
+  heard-frame = found-frame line taken found
+
+  -- a P2B, from one of the sites
+  pub heard-kind : vote line .kind ≡ 7
+  heard-kind = ap (λ (m : Frame). m .kind) heard-frame ∙ eqb-true (frameOf line .kind) 7 (sym (taken-is (frameOf line .kind)) ∙ found-taken line taken found)
+
+  pub heard-sender : vote line .sender < r .n
+  unfolding sender
+  heard-sender = leb-false (r .n) (vote line .sender) (a .from-site)
+
+  pub heard-arrived : Arrived (arrived (vote line))
+  unfolding wrong
+  heard-arrived =
+      let h = arrived (vote line) in
+      record {
+        valid = not-improper h (not-false (allValid h) (a .right)) (a .proper);
+        some-command = proper-some h (a .proper);
+        short = rw length-take (omega (arith, vote-count line (a .framed)));
+      }
+
+-- ---- the entries with a vote
+
+-- entry i with site's vote for h: what it was, or h if the vote is its own
+pub data Entry (t : Table) (site : ℕ) (h : List ℕ) (i : ℕ) : Type 0 where
+  kept : rowOf (withVote t site h) i ≡ rowOf t i → Entry t site h i
+  entered : site ≡ i → rowOf (withVote t site h) i ≡ h → Entry t site h i
+
+pub entry-is : {t : Table} → Sized t → (site : ℕ) (h : List ℕ) → site < sites → length h ≤ limit → (i : ℕ) → Entry t site h i
+entry-is {t} z site h p q i = go (extends h (rowOf t site)) refl (ℕ-discrete site i)
+  where
+    go : (b : Bool) → extends h (rowOf t site) ≡ b → Dec (site ≡ i) → Entry t site h i
+    go false e d = kept (rw (vote-stays t site h e))
+    go true e (yes d) = entered d (subst (λ (k : ℕ). rowOf (withVote t site h) k ≡ h) d (rw (vote-stored t site h e, row-stored z site h p q)))
+    go true e (no n) = kept (rw (vote-stored t site h e, row-stored-other t site h i (λ d. n (sym d))))
+
+-- the entries that a line's vote makes of a state's
+abbrev pub withLine : State → List ℕ → Table
+withLine s line = withVote (s .entries) (vote line .sender) (arrived (vote line))
+
+-- N-f entries of a table extend h
+abbrev pub Backing : Roster → Table → List ℕ → Type 0
+Backing r t h = quorum r ≤ countTo (r .n) (λ i. extends (rowOf t i) h)
+
+claimed-backing : (r : Roster) (t : Table) (h : List ℕ) → claimed r t h ≡ true → Backing r t h
+unfolding claimed supporters
+claimed-backing r t h e = leb-true (quorum r) (supporters r t h) e
+
+-- an accepted vote leaves these entries
+pub accepted-entries : {r : Roster} {s : State} {line : List ℕ} → Accepts r s line → step r s line .state .entries ≡ withLine s line
+unfolding after
+accepted-entries a = ap (λ (o : Outcome). o .state .entries) (a .outcome)
+
+-- ---- what is learned
+
+-- after an accepted vote: what was learned before, or the least history that extends it and the arrived one, which N-f entries extend
+pub data Learns (r : Roster) (s : State) (line : List ℕ) : Type 0 where
+  as-before : step r s line .state .learned ≡ s .learned → Learns r s line
+  merges : Backing r (withLine s line) (arrived (vote line)) → Least (commands (s .learned)) (arrived (vote line)) (commands (step r s line .state .learned))
+      → Learns r s line
+
+module _ {r : Roster} {s : State} (p : Sound r s) {line : List ℕ} (a : Heard r line) where
+  -- the answer of the merge, and what it means
+  merge-is : Answers limit (commands (s .learned)) (arrived (vote line))
+  merge-is =
+      let v = heard-arrived a in
+      merged-answers limit (commands (s .learned)) (arrived (vote line)) (valid-stored-length (s .learned) (p .learned)) (v .short) (v .valid .distinct)
+
+pub accepted-learns : {r : Roster} {s : State} {line : List ℕ} → Sound r s → Accepts r s line → Learns r s line
+unfolding after splits overflows
+accepted-learns {r} {s} {line} p a = go (claimed r t h) refl (merge-is p (accepted-heard a))
+  where
+    t : Table
+    t = withLine s line
+
+    h : List ℕ
+    h = arrived (vote line)
+
+    learned-is : step r s line .state .learned ≡ cond (claimed r t h) (union s h .history) (s .learned)
+    learned-is = ap (λ (o : Outcome). o .state .learned) (a .outcome)
+
+    go : (b : Bool) → claimed r t h ≡ b → Answers limit (commands (s .learned)) h → Learns r s line
+    go false e m = as-before (learned-is ∙ rw e)
+    go true e (is-split x n) = absurd (true≢false (sym (ap (λ (m : Merged). m .split) x) ∙ rw e at (a .joins)))
+    go true e (is-full x m n) = absurd (true≢false (sym (ap (λ (m : Merged). m .full) x) ∙ rw e at (a .fits)))
+    go true e (is-found {m = m} x k n) = merges (claimed-backing r t h e) (subst (Least (commands (s .learned)) h) (sym whole) (k .common))
+      where
+        whole : commands (step r s line .state .learned) ≡ m
+        whole = rw (learned-is, e, x) (commands-stored m n)
+
+-- ---- SPLIT
+
+-- N-f entries extend the arrived history, and no common extension of it and what is learned exists
+pub record Splits (r : Roster) (s : State) (line : List ℕ) : Type 0 where
+  pub heard : Heard r line
+  pub backing : Backing r (withLine s line) (arrived (vote line))
+  pub apart : Compatible (commands (s .learned)) (arrived (vote line)) → ⊥
+
+full-only : {test : Bool} → GivenFirst Split (test gives Full ∷ []) → ⊥
+full-only (behind e g) = given-none g
+  where
+    given-none : GivenFirst Split [] → ⊥
+    given-none g = elim g [ ]
+
+-- SPLIT is given only there
+pub split-is : {r : Roster} {s : State} (line : List ℕ) → Sound r s → step r s line .answer ≡ Refused Split → Splits r s line
+unfolding splits
+split-is {r} {s} line p e = go (stepped r s line)
+  where
+    h : List ℕ
+    h = arrived (vote line)
+
+    splitting : Heard r line → splits r (withLine s line) s h ≡ true → Answers limit (commands (s .learned)) h → Splits r s line
+    splitting a x (is-split y n) =
+        record { heard = a; backing = claimed-backing r (withLine s line) h (and-left (claimed r (withLine s line) h) _ x); apart = n }
+    splitting a x (is-full y k n) = absurd (true≢false (sym (and-right (claimed r (withLine s line) h) _ x) ∙ ap (λ (m : Merged). m .split) y))
+    splitting a x (is-found y k n) = absurd (true≢false (sym (and-right (claimed r (withLine s line) h) _ x) ∙ ap (λ (m : Merged). m .split) y))
+
+    given : GivenFirst Split (rules r s line) → Splits r s line
+    given (behind a (behind b (behind c (behind d (behind x (behind f (behind g (behind i (at-once j))))))))) =
+        let heard : Heard r line = record { framed = b; from-site = c; right = f; proper = g } in
+        splitting heard j (merge-is p heard)
+    given (behind a (behind b (behind c (behind d (behind x (behind f (behind g (behind i (behind j k))))))))) = absurd (full-only k)
+
+    go : Stepped r s line → Splits r s line
+    go (refuses q g o) = given (subst (λ (x : Refusal). GivenFirst x (rules r s line)) (refused-same (sym (ap (λ (x : Outcome). x .answer) o) ∙ e)) g)
+    go (accepting a) = absurd (accepted-not-refused (sym (ap (λ (x : Outcome). x .answer) (a .outcome)) ∙ e))
