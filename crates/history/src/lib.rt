@@ -64,8 +64,8 @@ pub fn valid(h: &[u64]) -> bool
 pub fn improper(h: &[u64]) -> bool
     ensures { λ r. ⌜ r ≡ spec.improper (now (h .entry)) ⌝ }
 {
-    let twice = repeated(h);
-    if twice {
+    let doubled = repeated(h);
+    if doubled {
         return true;
     }
     let ordered = is_canonical(h);

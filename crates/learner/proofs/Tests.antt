@@ -22,8 +22,8 @@ use Rattle.refusal.specs.declared.Answer.the-variants.{Accepted}
 use Rattle.refusal.specs.Rules.{judged}
 use Rattle.learner.specs.declared.State.{State}
 use Rattle.learner.specs.declared.Verdict.{Verdict}
-use Rattle.learner.specs.Learner.{backs, contradicts}
-use Rattle.learner.specs.Verdict.{stands, standing, enough, none, against, merging, favour, unionRules, onMerge, onEntry, settled}
+use Rattle.learner.specs.Learner.{contradicts}
+use Rattle.learner.specs.Verdict.{backs, stands, standing, enough, none, against, merging, favour, mergeChecks, onMerge, onEntry, settled}
 
 -- within its length, the code's test of extension is the test
 pub within : (n : ℕ) (h g : List ℕ) → length h ≤ n → extendsWithin n h g ≡ extends h g

@@ -13,7 +13,7 @@ use Rattle.history.specs.Words.{limit, commands, validStored, stored}
 use Rattle.merge.specs.declared.Merged.{Merged}
 use Rattle.merge.specs.Merged.{merged}
 use Rattle.table.specs.declared.Table.{Table}
-use Rattle.table.specs.Table.{row, rowOf, storedAt, emptyTable, validTable}
+use Rattle.table.specs.Table.{rowOf, storedAt, emptyTable, validTable}
 use Rattle.refusal.specs.declared.Refusal.{Refusal}
 use Rattle.refusal.specs.declared.Refusal.the-variants.{Config, Form, Sender, Stale, Proof, Command, History, Contradiction, Split, Full}
 use Rattle.refusal.specs.Rules.{Rule, _gives_, judged}
@@ -77,30 +77,27 @@ unfoldable pub withVote : Table → ℕ → List ℕ → Table
 withVote t site h = cond (extends h (rowOf t site)) (storedAt t site h) t
 
 -- "Supporters are the sites whose entry then extends the arrived history."
-abbrev pub backs : List ℕ → List ℕ → List ℕ → ℕ → Bool
-backs words counts h i = extends (row words counts i) h
-
 unfoldable pub supporters : Roster → Table → List ℕ → ℕ
-supporters r t h = countTo (r .n) (backs (t .words) (t .counts) h)
+supporters r t h = countTo (r .n) (λ i. extends (rowOf t i) h)
 
 -- whether the learner merges the arrived history: "If they are N-f or more"
 unfoldable pub claimed : Roster → Table → List ℕ → Bool
 claimed r t h = leb (quorum r) (supporters r t h)
 
 -- "learned becomes the merge of itself and the arrived history"
-abbrev pub union : State → List ℕ → Merged
-union s h = merged limit (commands (s .learned)) h
+abbrev pub mergeOf : State → List ℕ → Merged
+mergeOf s h = merged limit (commands (s .learned)) h
 
 -- "SPLIT and FULL speak of that merge."
 unfoldable pub splits : Roster → Table → State → List ℕ → Bool
-splits r t s h = claimed r t h && union s h .split
+splits r t s h = claimed r t h && mergeOf s h .split
 
 unfoldable pub overflows : Roster → Table → State → List ℕ → Bool
-overflows r t s h = claimed r t h && union s h .full
+overflows r t s h = claimed r t h && mergeOf s h .full
 
 -- the state after it, of which t are the entries
 unfoldable pub after : Roster → Table → State → List ℕ → State
-after r t s h = record { entries = t; learned = cond (claimed r t h) (union s h .history) (s .learned) }
+after r t s h = record { entries = t; learned = cond (claimed r t h) (mergeOf s h .history) (s .learned) }
 
 -- "Each returns its number only (a learner's supporters: 0), sends nothing and keeps state"
 abbrev pub refuse : State → Refusal → Outcome
@@ -108,25 +105,21 @@ refuse s e = record { answer = Refused e; supporters = 0; state = s }
 
 -- ---- the step: "Checks run in this order; the first that applies is given."
 
--- the checks of the history that a vote carries, of which `entry` is the sender's; `later` are those after them
-abbrev pub historyRules : List ℕ → List ℕ → List Rule → List Rule
-historyRules entry h later = wrong h gives Command ∷ improper h gives History ∷ contradicts entry h gives Contradiction ∷ later
-
--- the checks of a vote
-abbrev pub voteRules : Roster → List ℕ → Frame → List Rule → List Rule
-voteRules r entry v later = sender r v gives Sender ∷ stale v gives Stale ∷ proof r v gives Proof ∷ historyRules entry (arrived v) later
-
--- the checks of the merge, t being the entries with the vote
-abbrev pub mergeRules : Roster → Table → State → List ℕ → List Rule
-mergeRules r t s h = splits r t s h gives Split ∷ overflows r t s h gives Full ∷ []
-
--- all checks of a line
 abbrev pub rules : Roster → State → List ℕ → List Rule
 rules r s line =
+    let v = vote line in
+    let h = arrived v in
+    let t = withVote (s .entries) (v .sender) h in
     config r s gives Config ∷
     form line gives Form ∷
-    voteRules r (rowOf (s .entries) (vote line .sender)) (vote line)
-    (mergeRules r (withVote (s .entries) (vote line .sender) (arrived (vote line))) s (arrived (vote line)))
+    sender r v gives Sender ∷
+    stale v gives Stale ∷
+    proof r v gives Proof ∷
+    wrong h gives Command ∷
+    improper h gives History ∷
+    contradicts (rowOf (s .entries) (v .sender)) h gives Contradiction ∷
+    splits r t s h gives Split ∷
+    overflows r t s h gives Full ∷ []
 
 -- what an accepted vote gives: "The answer carries the number of supporters."
 abbrev pub accepted : Roster → State → ℕ → List ℕ → Outcome

@@ -33,7 +33,7 @@ use Rattle.learner.specs.Run.{run, outcomes, Voted, now, later}
 pub fresh-sound : (r : Roster) → validRoster r ≡ true → Sound r fresh
 fresh-sound r e = record { sized = empty-sized; roster = e; entries = valid-empty (r .n); learned = stored-valid [] (omega arith) valid-nil }
 
--- "learned only grows by extension; each entry only grows; learned stays canonical and at most 32" (a state that is sound)
+-- from a sound state, what is learned and each entry only grow by extension, and the state stays sound
 pub run-advance : {r : Roster} {s : State} → Sound r s → (lines : List (List ℕ)) → Advance r s (run r s lines)
 unfolding run
 run-advance {r} {s} p [] =
@@ -80,10 +80,18 @@ run-refused r s before line more e p =
     ∙ ap (λ (o : Outcome). run r (o .state) more) (refused-is r (run r s before) line e p)
     ∙ sym (run-append r s before more)
 
-pub outcomes-refused : (r : Roster) (s : State) (line : List ℕ) (more : List (List ℕ)) (e : Refusal)
-    → step r s line .answer ≡ Refused e → outcomes r s (line ∷ more) ≡ refuse s e ∷ outcomes r s more
+outcomes-append : (r : Roster) (s : State) (lines more : List (List ℕ)) → outcomes r s (lines ++ more) ≡ outcomes r s lines ++ outcomes r (run r s lines) more
+unfolding outcomes run
+outcomes-append r s [] more = refl
+outcomes-append r s (line ∷ lines) more = ap (λ (os : List Outcome). step r s line ∷ os) (outcomes-append r (step r s line .state) lines more)
+
+pub outcomes-refused : (r : Roster) (s : State) (before : List (List ℕ)) (line : List ℕ) (more : List (List ℕ)) (e : Refusal)
+    → step r (run r s before) line .answer ≡ Refused e
+    → outcomes r s (before ++ line ∷ more) ≡ outcomes r s before ++ refuse (run r s before) e ∷ outcomes r (run r s before) more
 unfolding outcomes
-outcomes-refused r s line more e p = ap (λ (o : Outcome). o ∷ outcomes r (o .state) more) (refused-is r s line e p)
+outcomes-refused r s before line more e p =
+    outcomes-append r s before (line ∷ more)
+    ∙ ap (λ (o : Outcome). outcomes r s before ++ o ∷ outcomes r (o .state) more) (refused-is r (run r s before) line e p)
 
 -- ---- from a fresh start, whatever the roster
 
@@ -93,7 +101,7 @@ unfolding run
 run-unfit r s e [] = refl
 run-unfit r s e (line ∷ lines) = ap (λ (o : Outcome). run r (o .state) lines) (step-config r s line e) ∙ run-unfit r s e lines
 
--- "learned only grows by extension; each entry only grows; learned stays canonical and at most 32"
+-- what is learned and each entry only grow by extension; what is learned stays canonical and at most 32
 pub record Kept (before after : State) : Type 0 where
   pub learned-grows : Extends (commands (after .learned)) (commands (before .learned))
   pub entries-grow : (i : ℕ) → Extends (rowOf (after .entries) i) (rowOf (before .entries) i)

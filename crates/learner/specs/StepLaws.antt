@@ -54,7 +54,7 @@ use Rattle.learner.specs.Learner.{
   withVote,
   supporters,
   claimed,
-  union,
+  mergeOf,
   splits,
   overflows,
   after,
@@ -257,13 +257,13 @@ learned-merge g h p q a x y = go (merged-answers limit g h q (a .short) (a .vali
 -- the state after an accepted vote, of which t are the entries
 module _ (r : Roster) (t : Table) (s : State) (h : List ℕ) (p : validStored (s .learned) ≡ true) (a : Arrived h)
     (x : splits r t s h ≡ false) (y : overflows r t s h ≡ false) where
-  merging : claimed r t h ≡ true → Learned (commands (s .learned)) h (union s h)
+  merging : claimed r t h ≡ true → Learned (commands (s .learned)) h (mergeOf s h)
   unfolding splits overflows
   merging e =
       learned-merge (commands (s .learned)) h (valid-parts (commands (s .learned)) (valid-stored-history (s .learned) p)) (valid-stored-length (s .learned) p) a
       (rw e at x) (rw e at y)
 
-  merged-state : claimed r t h ≡ true → after r t s h .learned ≡ union s h .history
+  merged-state : claimed r t h ≡ true → after r t s h .learned ≡ mergeOf s h .history
   unfolding after
   merged-state e = rw e
 

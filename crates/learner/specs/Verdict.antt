@@ -8,13 +8,13 @@ use lib.ListN.{take, replicate}
 use Rattle.roster.specs.declared.Roster.{Roster}
 use Rattle.roster.specs.Roster.{quorum}
 use Rattle.roster.specs.Sites.{countTo}
-use Rattle.history.specs.declared.History.{History}
-use Rattle.history.specs.History.{extends}
+use Rattle.history.specs.declared.History.{History as Stored}
+use Rattle.history.specs.History.{extends, improper}
 use Rattle.history.specs.Words.{limit}
 use Rattle.merge.specs.Merged.{merged}
 use Rattle.table.specs.Table.{row, tableOf, storedAt}
 use Rattle.refusal.specs.declared.Refusal.{Refusal}
-use Rattle.refusal.specs.declared.Refusal.the-variants.{Config, Form, Contradiction, Split, Full}
+use Rattle.refusal.specs.declared.Refusal.the-variants.{Config, Form, Sender, Stale, Proof, Command, History, Contradiction, Split, Full}
 use Rattle.refusal.specs.declared.Answer.the-variants.{Accepted, Refused}
 use Rattle.refusal.specs.Rules.{Rule, _gives_, judged}
 use Rattle.frame.specs.declared.Frame.{Frame}
@@ -22,11 +22,15 @@ use Rattle.frame.specs.declared.Reading.{Reading}
 use Rattle.learner.specs.declared.State.{State}
 use Rattle.learner.specs.declared.Verdict.{Verdict}
 use Rattle.learner.specs.declared.Outcome.{Outcome}
-use Rattle.learner.specs.Learner.{backs, config, contradicts, historyRules, voteRules, arrived}
+use Rattle.learner.specs.Learner.{config, sender, stale, proof, wrong, contradicts, arrived}
 
 -- a state of these parts: the entries' words and counts, and what is learned
 abbrev pub stateOf : List ℕ → List ℕ → List ℕ → ℕ → State
 stateOf words counts past count = record { entries = tableOf words counts; learned = record { count = count; words = past } }
+
+-- whether row i extends h
+abbrev pub backs : List ℕ → List ℕ → List ℕ → ℕ → Bool
+backs words counts h i = extends (row words counts i) h
 
 -- whether site i stands behind h once `site` has voted for it
 abbrev pub stands : List ℕ → List ℕ → ℕ → List ℕ → ℕ → Bool
@@ -40,7 +44,7 @@ unfoldable pub enough : Roster → List ℕ → List ℕ → ℕ → List ℕ �
 enough r words counts site h = leb (quorum r) (standing r words counts site h)
 
 -- where nothing is learned
-abbrev pub none : History
+abbrev pub none : Stored
 none = record { count = 0; words = replicate limit 0 }
 
 -- refused
@@ -69,26 +73,33 @@ abbrev pub favoured : Roster → List ℕ → List ℕ → List ℕ → ℕ → 
 favoured r words counts l site h = favour r words counts l site h (extends h (row words counts site))
 
 -- the checks of the merge
-abbrev pub unionRules : Roster → List ℕ → List ℕ → List ℕ → ℕ → List ℕ → List Rule
-unionRules r words counts l site h =
+abbrev pub mergeChecks : Roster → List ℕ → List ℕ → List ℕ → ℕ → List ℕ → List Rule
+mergeChecks r words counts l site h =
     (enough r words counts site h && merged limit l h .split) gives Split ∷
     (enough r words counts site h && merged limit l h .full) gives Full ∷ []
 
--- the verdict on a vote that contradicts nothing; on one of a proper history; on one with its certificate; on any; and on what was read of a line
+-- the checks of the history that a vote carries, of which `entry` is the sender's, and of a vote; `later` are those after them
+abbrev pub historyRules : List ℕ → List ℕ → List Rule → List Rule
+historyRules entry h later = wrong h gives Command ∷ improper h gives History ∷ contradicts entry h gives Contradiction ∷ later
+
+abbrev pub voteRules : Roster → List ℕ → Frame → List Rule → List Rule
+voteRules r entry v later = sender r v gives Sender ∷ stale v gives Stale ∷ proof r v gives Proof ∷ historyRules entry (arrived v) later
+
+-- the verdict on a vote that contradicts nothing, on one of a proper history, and on one with its certificate
 abbrev pub onMerge : Roster → List ℕ → List ℕ → List ℕ → ℕ → List ℕ → Bool → Verdict
-onMerge r words counts l site h stores = judged against (favour r words counts l site h stores) (unionRules r words counts l site h)
+onMerge r words counts l site h stores = judged against (favour r words counts l site h stores) (mergeChecks r words counts l site h)
 
 abbrev pub onEntry : Roster → List ℕ → List ℕ → List ℕ → ℕ → List ℕ → Verdict
 onEntry r words counts l site h =
-    judged against (favoured r words counts l site h) (contradicts (row words counts site) h gives Contradiction ∷ unionRules r words counts l site h)
+    judged against (favoured r words counts l site h) (contradicts (row words counts site) h gives Contradiction ∷ mergeChecks r words counts l site h)
 
 abbrev pub onHistory : Roster → List ℕ → List ℕ → List ℕ → ℕ → List ℕ → Verdict
 onHistory r words counts l site h =
-    judged against (favoured r words counts l site h) (historyRules (row words counts site) h (unionRules r words counts l site h))
+    judged against (favoured r words counts l site h) (historyRules (row words counts site) h (mergeChecks r words counts l site h))
 
--- the checks of a vote, with the supporters counted as here
+-- the checks of a vote with the supporters counted as here, and the verdict on a vote and on what was read of a line
 abbrev pub checks : Roster → List ℕ → List ℕ → List ℕ → Frame → List Rule
-checks r words counts l v = voteRules r (row words counts (v .sender)) v (unionRules r words counts l (v .sender) (arrived v))
+checks r words counts l v = voteRules r (row words counts (v .sender)) v (mergeChecks r words counts l (v .sender) (arrived v))
 
 abbrev pub onVote : Roster → List ℕ → List ℕ → List ℕ → Frame → Verdict
 onVote r words counts l v = judged against (favoured r words counts l (v .sender) (arrived v)) (checks r words counts l v)

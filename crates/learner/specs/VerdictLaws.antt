@@ -23,7 +23,7 @@ use Rattle.table.specs.declared.Table.{Table}
 use Rattle.table.specs.Table.{sites, rowOf, storedAt}
 use Rattle.table.specs.TableLaws.{Sized, row-stored, row-stored-other}
 use Rattle.refusal.specs.declared.Refusal.{Refusal}
-use Rattle.refusal.specs.declared.Refusal.the-variants.{Config, Form, Sender, Stale, Proof, Command, History, Contradiction}
+use Rattle.refusal.specs.declared.Refusal.the-variants.{Config, Form, Sender, Stale, Proof, Command, History, Contradiction, Split, Full}
 use Rattle.refusal.specs.declared.Answer.the-variants.{Accepted}
 use Rattle.refusal.specs.Rules.{judged, _gives_}
 use Rattle.refusal.specs.RulesLaws.{judged-map, judged-later}
@@ -32,9 +32,9 @@ use Rattle.frame.specs.declared.Reading.{Reading}
 use Rattle.frame.specs.Format.{readingOf, malformed}
 use Rattle.learner.specs.declared.State.{State}
 use Rattle.learner.specs.declared.Verdict.{Verdict}
-use Rattle.learner.specs.Learner.{config, taken, form, vote, arrived, sender, contradicts, withVote, backs, supporters, claimed, splits, overflows, after, refuse, mergeRules, accepted, step}
+use Rattle.learner.specs.Learner.{config, taken, form, vote, arrived, sender, contradicts, withVote, supporters, claimed, splits, overflows, after, refuse, accepted, step}
 use Rattle.learner.specs.StepLaws.{config-sound, Sound, vote-count, vote-enters, vote-stored, vote-stays}
-use Rattle.learner.specs.Verdict.{stands, standing, enough, none, against, favour, favoured, unionRules, checks, onReading, settled}
+use Rattle.learner.specs.Verdict.{backs, stands, standing, enough, none, against, favour, favoured, mergeChecks, checks, onReading, settled}
 
 -- ---- the supporters
 
@@ -82,8 +82,8 @@ module _ (r : Roster) (s : State) (z : Sized (s .entries)) (site : ℕ) (h : Lis
   -- and the checks of the merge
   settled-merge :
       judged (refuse s) (settled s site h (favoured r (s .entries .words) (s .entries .counts) (commands (s .learned)) site h))
-      (unionRules r (s .entries .words) (s .entries .counts) (commands (s .learned)) site h)
-      ≡ judged (refuse s) (accepted r s site h) (mergeRules r (withVote (s .entries) site h) s h)
+      (mergeChecks r (s .entries .words) (s .entries .counts) (commands (s .learned)) site h)
+      ≡ judged (refuse s) (accepted r s site h) (splits r (withVote (s .entries) site h) s h gives Split ∷ overflows r (withVote (s .entries) site h) s h gives Full ∷ [])
   unfolding splits overflows
   settled-merge = rw (settled-accepted, enough-is z site h inside short agrees r)
 

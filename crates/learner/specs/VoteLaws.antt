@@ -32,7 +32,7 @@ use Rattle.frame.specs.Format.{readingOf, isLine, frameOf, malformed}
 use Rattle.frame.specs.FormatLaws.{found-line, found-taken, found-frame}
 use Rattle.learner.specs.declared.State.{State}
 use Rattle.learner.specs.declared.Outcome.{Outcome}
-use Rattle.learner.specs.Learner.{taken, form, vote, arrived, sender, wrong, withVote, supporters, claimed, union, splits, overflows, after, rules, step}
+use Rattle.learner.specs.Learner.{taken, form, vote, arrived, sender, wrong, withVote, supporters, claimed, mergeOf, splits, overflows, after, rules, step}
 use Rattle.learner.specs.StepLaws.{Accepts, Stepped, refuses, accepting, stepped, Sound, Arrived, taken-is, vote-count, vote-stored, vote-stays}
 
 -- ---- a vote that is heard
@@ -134,7 +134,7 @@ accepted-learns {r} {s} {line} p a = go (claimed r t h) refl (merge-is p (accept
     h : List ℕ
     h = arrived (vote line)
 
-    learned-is : step r s line .state .learned ≡ cond (claimed r t h) (union s h .history) (s .learned)
+    learned-is : step r s line .state .learned ≡ cond (claimed r t h) (mergeOf s h .history) (s .learned)
     learned-is = ap (λ (o : Outcome). o .state .learned) (a .outcome)
 
     go : (b : Bool) → claimed r t h ≡ b → Answers limit (commands (s .learned)) h → Learns r s line

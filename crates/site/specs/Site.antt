@@ -8,11 +8,12 @@ use Rattle.roster.specs.Mask.{beyond}
 use Rattle.frame.specs.Layout.{longest}
 use Rattle.site.specs.declared.ViewRecord.{ViewRecord}
 
--- CONFIG is none of these: "roster outside the figures above; own number ≥ N or output buffer under 1,061 bytes (the longest line)"
+-- whether CONFIG finds nothing wrong with roster, own number and buffer: no "roster outside the figures above; own number ≥ N or output buffer
+-- under 1,061 bytes (the longest line)"
 unfoldable pub seated : Roster → ℕ → ℕ → Bool
 seated r own room = validRoster r && (ltb own (r .n) && leb longest room)
 
--- nor, of the record, "a mask bit at N or above"
+-- and nothing with the record: no "mask bit at N or above"
 unfoldable pub validRecord : ℕ → ViewRecord → Bool
 validRecord n v = not (beyond (v .suspicions) n) && not (beyond (v .changes) n)
 

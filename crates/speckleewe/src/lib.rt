@@ -68,10 +68,10 @@ pub extern "C" fn view_change_step(
     ensures { λ o. ⌜ (o ≡ viewChangeOutcome (change.returned roster own views (now (line .entry)) (now (out .entry)))) × (now (out .exit) ≡ change.output roster own views (now (line .entry)) (now (out .entry))) ⌝ }
 {
     let o = viewchange::step(roster, own, views, line, out);
-    let answer = o.answer;
+    let given = o.answer;
     let after = o.views;
     ViewChangeOutcome {
-        answer: answer.number(),
+        answer: given.number(),
         sent: o.sent,
         views: after,
     }
