@@ -12,7 +12,7 @@ use lib.ListN.{length, take, drop, getD, set, drop-of-length-le, length-drop, le
 use lib.Seq.{take-length, drop-cons, take-suc, take-all, length-take-le, append-snoc, take-suc-set, drop-set-lt, getD-drop, getD-take, drop-drop}
 use Rattle.history.specs.Words.{padded}
 use Rattle.command.specs.Command.{conflict, sameRequest}
-use Rattle.history.specs.History.{present, repeated, canonical, isCanonical}
+use Rattle.history.specs.History.{present, repeated, canonical, equal, isCanonical}
 use Rattle.history.specs.Insertion.{place, clear, insert, arrange, stays, walk}
 use Rattle.history.specs.Front.{offAt, shifted, rotated, fronted}
 
@@ -54,6 +54,28 @@ repeated-more h i p e = rw (drop-next h i p, e)
 pub repeated-end : (h : List ℕ) (i : ℕ) → length h ≤ i → repeated (drop i h) ≡ false
 unfolding repeated
 repeated-end h i p = rw (drop-of-length-le h p)
+
+-- ---- equality
+
+pub equal-sizes : (g h : List ℕ) → (length g ≡ length h → ⊥) → equal g h ≡ false
+unfolding equal
+equal-sizes [] [] n = absurd (n refl)
+equal-sizes [] (d ∷ h) n = refl
+equal-sizes (c ∷ g) [] n = refl
+equal-sizes (c ∷ g) (d ∷ h) n = rw (equal-sizes g h (λ e. n (ap suc e)), and-false (eqb c d))
+
+module _ (g h : List ℕ) (i : ℕ) (p : i < length g) (q : i < length h) where
+  pub equal-stop : (getD g i 0 ≡ getD h i 0 → ⊥) → equal (drop i g) (drop i h) ≡ false
+  unfolding equal
+  equal-stop n = rw (drop-next g i p, drop-next h i q, ne-eqb _ _ n)
+
+  pub equal-more : getD g i 0 ≡ getD h i 0 → equal (drop i g) (drop i h) ≡ equal (drop (i + 1) g) (drop (i + 1) h)
+  unfolding equal
+  equal-more e = rw (drop-next g i p, drop-next h i q, eq-eqb _ _ e)
+
+pub equal-end : (g h : List ℕ) (i : ℕ) → length g ≤ i → length h ≤ i → equal (drop i g) (drop i h) ≡ true
+unfolding equal
+equal-end g h i p q = rw (drop-of-length-le g p, drop-of-length-le h q)
 
 -- ---- walking left
 

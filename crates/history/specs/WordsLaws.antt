@@ -8,9 +8,9 @@ use borrow.Author.Tests.{le-leb, leb-true}
 use lib.Dec.{leb}
 use lib.ListN.{length, take, drop, length-take}
 use Rattle.history.specs.declared.History.{History}
-use Rattle.history.specs.History.{validHistory}
+use Rattle.history.specs.History.{validHistory, extends}
 use Rattle.history.specs.ExtensionLaws.{and-left, and-right}
-use Rattle.history.specs.Words.{limit, padded, commands, stored, validStored}
+use Rattle.history.specs.Words.{limit, padded, commands, stored, validStored, extendsWithin}
 
 pub length-padded : (n : ℕ) (l : List ℕ) → length (padded n l) ≡ n
 unfolding padded
@@ -41,6 +41,10 @@ unfolding validStored
 stored-valid l p v =
     let counted : leb (min (length l) limit) limit ≡ true = le-leb (min (length l) limit) limit (omega arith) in
     rw (counted, commands-stored l p) v
+
+-- within its length, the code's test of extension is the test
+pub extends-within : (n : ℕ) (h g : List ℕ) → length h ≤ n → extendsWithin n h g ≡ extends h g
+extends-within n h g p = rw (le-leb (length h) n p)
 
 -- what `validStored` says
 pub valid-stored-count : (h : History) → validStored h ≡ true → h .count ≤ limit

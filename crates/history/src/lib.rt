@@ -75,6 +75,30 @@ pub fn improper(h: &[u64]) -> bool
     h.len() == 0
 }
 
+// The first n words, or all of them if there are fewer.
+pub fn first<'a>(words: &'a [u64], n: usize) -> &'a [u64]
+    ensures { λ r. ⌜ now r ≡ take n (now (words .entry)) ⌝ }
+{
+    if n <= words.len() { &words[..n] } else { words }
+}
+
+// Whether two lists are equal.
+pub fn same(g: &[u64], h: &[u64]) -> bool
+    ensures { λ r. ⌜ r ≡ spec.equal (now (g .entry)) (now (h .entry)) ⌝ }
+{
+    if g.len() != h.len() {
+        return false;
+    }
+    let mut i: usize = 0;
+    while i < g.len() {
+        if g[i] != h[i] {
+            return false;
+        }
+        i += 1;
+    }
+    true
+}
+
 // The place of the command at n among those before it, found by walking left until one conflicts.
 fn place(h: &[u64], n: usize) -> usize
     requires { ⌜ n < length (now h) ⌝ }

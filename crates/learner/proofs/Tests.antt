@@ -10,6 +10,7 @@ use lib.ListN.{length}
 use Rattle.history.specs.declared.History.{History}
 use Rattle.history.specs.History.{extends}
 use Rattle.history.specs.Words.{limit, extendsWithin}
+use Rattle.history.specs.WordsLaws.{extends-within}
 use Rattle.roster.specs.declared.Roster.{Roster}
 use Rattle.roster.specs.Roster.{quorum}
 use Rattle.table.specs.declared.Table.{Table}
@@ -25,19 +26,15 @@ use Rattle.learner.specs.declared.Verdict.{Verdict}
 use Rattle.learner.specs.Learner.{contradicts}
 use Rattle.learner.specs.Verdict.{backs, stands, standing, enough, none, against, merging, favour, mergeChecks, onMerge, onEntry, settled}
 
--- within its length, the code's test of extension is the test
-pub within : (n : ℕ) (h g : List ℕ) → length h ≤ n → extendsWithin n h g ≡ extends h g
-within n h g p = rw (le-leb (length h) n p)
-
 -- what the code's test of a row's support says
 pub backs-is : (words counts h : List ℕ) (i : ℕ) (entry : List ℕ) (b : Bool) → entry ≡ row words counts i → b ≡ extendsWithin 64 entry h → backs words counts h i ≡ b
 backs-is words counts h i entry b e f =
-    sym (within 64 (row words counts i) h (omega (arith, length-row words counts i)))
+    sym (extends-within 64 (row words counts i) h (omega (arith, length-row words counts i)))
     ∙ ap (λ (l : List ℕ). extendsWithin 64 l h) (sym e) ∙ sym f
 
 -- and its test of a history against an entry
 pub newer-is : (h entry g : List ℕ) (b : Bool) → length h ≤ 64 → entry ≡ g → b ≡ extendsWithin 64 h entry → extends h g ≡ b
-newer-is h entry g b p e f = sym (within 64 h g p) ∙ ap (extendsWithin 64 h) (sym e) ∙ sym f
+newer-is h entry g b p e f = sym (extends-within 64 h g p) ∙ ap (extendsWithin 64 h) (sym e) ∙ sym f
 
 -- ---- a vote that is merged: m is what merging answered
 

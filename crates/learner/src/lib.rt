@@ -60,13 +60,6 @@ fn wide(n: u8) -> usize
     n as usize
 }
 
-// The first n words, or all of them if there are fewer.
-fn first<'a>(words: &'a [u64], n: usize) -> &'a [u64]
-    ensures { λ h. ⌜ now h ≡ take n (now (words .entry)) ⌝ }
-{
-    if n <= words.len() { &words[..n] } else { words }
-}
-
 // Whether the roster, the entries or what is learned, the first `count` words of `past`, are such that no step takes them.
 fn config<'a>(r: Roster, words: &'a [u64], counts: &'a [u8], past: &[u64], count: u8) -> bool
     ensures { λ b. ⌜ b ≡ spec.config r (verdict.stateOf (now (words .entry)) (now (counts .entry)) (now (past .entry)) count) ⌝ }
@@ -83,7 +76,7 @@ fn config<'a>(r: Roster, words: &'a [u64], counts: &'a [u8], past: &[u64], count
     if !short {
         return true;
     }
-    let history = history::valid(first(past, count as usize));
+    let history = history::valid(history::first(past, count as usize));
     !history
 }
 
@@ -241,7 +234,7 @@ fn vote<'a>(r: Roster, words: &'a [u64], counts: &'a [u8], learned: &[u64], v: F
         counts,
         learned,
         v.sender,
-        first(arrived, v.n as usize),
+        history::first(arrived, v.n as usize),
     )
 }
 
@@ -274,7 +267,13 @@ fn judge<'a>(
     if !found {
         return against(Refusal::Form);
     }
-    vote(r, words, counts, first(past, count as usize), reading.frame)
+    vote(
+        r,
+        words,
+        counts,
+        history::first(past, count as usize),
+        reading.frame,
+    )
 }
 
 // One step: the answer to a line, its supporters, and the state after it. Any line is answered in any state.
@@ -298,7 +297,7 @@ pub fn step(r: Roster, mut s: State, line: &[u8]) -> Outcome
     }
     let vote = reading.frame;
     let arrived: &[u64] = &vote.words;
-    let h = first(arrived, wide(vote.n));
+    let h = history::first(arrived, wide(vote.n));
     let mut words = s.entries.words;
     let mut counts = s.entries.counts;
     table::store(&mut words, &mut counts, wide(vote.sender), h);

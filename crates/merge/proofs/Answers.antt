@@ -1,21 +1,16 @@
 -- The answers of `settle` and `merge`, case by case.
-use mathlib.Core.Path.{_≡_, refl, sym, ap, _∙_, subst}
-use mathlib.Core.Bool.{Bool, true, false, cond, _&&_, and-false}
-use mathlib.Core.List.{List, [], _∷_, _++_}
+use mathlib.Core.Path.{_≡_, refl}
+use mathlib.Core.Bool.{Bool, true, false, cond, and-false}
+use mathlib.Core.List.{List}
 use mathlib.Core.Option.{none, some}
-use Prim.Native.Nat.{ℕ, zero, suc, _+_, _≤_}
-use native.Mathlib.Omega.{arith}
-use borrow.Author.Tests.{leb-true}
+use Prim.Native.Nat.{ℕ}
 use lib.Dec.{leb}
-use lib.ListN.{length, take, drop, length-append}
-use lib.Seq.{take-all, take-at}
-use Rattle.history.specs.History.{present, extends, canonical}
+use lib.ListN.{length}
+use Rattle.history.specs.History.{extends, canonical}
 use Rattle.history.specs.CanonicalLaws.{canonical-length}
 use Rattle.history.specs.declared.History.{History}
-use Rattle.history.specs.Words.{padded, stored}
-use Rattle.history.specs.WordsLaws.{length-padded, take-padded}
-use Rattle.merge.specs.Merge.{appended, appendedIn, merge}
-use Rattle.merge.specs.MergeLaws.{length-appended}
+use Rattle.history.specs.Words.{stored}
+use Rattle.merge.specs.Merge.{appended, merge}
 use Rattle.merge.specs.Merged.{split, full, found, answered, merged, answerOf}
 
 pub answer-split : (w h : List ℕ) → extends w h ≡ false → answerOf 32 w h ≡ split
@@ -50,19 +45,3 @@ merged-union g h p q = rw (p, q) (go (extends (appended g h) h))
     go : (b : Bool) → answered 32 (cond b (some m) none) ≡ cond b (cond (leb (length (appended g h)) 32) (found m) full) split
     go true = rw (canonical-length (appended g h))
     go false = refl
-
--- ---- what is appended in the work array
-
-pub appended-in-work : (g h : List ℕ) → leb (length g) 32 ≡ true → leb (length h) 32 ≡ true → appendedIn (padded 64 g) (length g) h ≡ appended g h
-appended-in-work g h p q =
-    let short-left : length g ≤ 32 = leb-true (length g) 32 p in
-    let short-right : length h ≤ 32 = leb-true (length h) 32 q in
-    rw (length-padded 64 g, take-padded 64 g (omega arith)) (take-all 64 (appended g h) (omega (arith, length-appended g h)))
-
--- after `append`, the first n words of w are what was appended, and w has so many
-module _ (b : List ℕ) (k : ℕ) (h : List ℕ) (n : ℕ) (w : List ℕ) (p : n ≡ length (appendedIn b k h)) (q : w ≡ appendedIn b k h ++ drop n b) where
-  pub take-appended : take n w ≡ appendedIn b k h
-  take-appended = rw q (take-at (appendedIn b k h) (drop n b) n (sym p))
-
-  pub append-bound : n ≤ length w
-  append-bound = rw (q, length-append) (omega arith)

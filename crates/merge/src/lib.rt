@@ -5,6 +5,7 @@ ghost use Prim.Native.Nat.{min};
 ghost use lib.ListN.{length, drop};
 ghost use Rattle.history.specs.Words.{limit};
 ghost use Rattle.merge.specs.Merge as spec;
+ghost use Rattle.merge.specs.Appending as appending;
 ghost use Rattle.merge.specs.Merged as answer;
 use history::History;
 
@@ -43,6 +44,62 @@ pub fn append(buf: &mut [u64], count: usize, more: &[u64]) -> usize
         }
     }
     n
+}
+
+// Whether g holds c, byte for byte.
+pub fn holds(g: &[u64], c: u64) -> bool
+    ensures { λ r. ⌜ r ≡ appending.holds (now (g .entry)) c ⌝ }
+{
+    let mut i: usize = 0;
+    while i < g.len() {
+        if c == g[i] {
+            return true;
+        }
+        i += 1;
+    }
+    false
+}
+
+// Whether g holds c's proposer and serial with other bytes.
+fn differs(g: &[u64], c: u64) -> bool
+    ensures { λ r. ⌜ r ≡ appending.differs (now (g .entry)) c ⌝ }
+{
+    let known = history::present(c, g);
+    if !known {
+        return false;
+    }
+    let held = holds(g, c);
+    !held
+}
+
+// Whether g holds some command's proposer and serial of h with other bytes.
+pub fn reuses(g: &[u64], h: &[u64]) -> bool
+    ensures { λ r. ⌜ r ≡ appending.reuses (now (g .entry)) (now (h .entry)) ⌝ }
+{
+    let mut i: usize = 0;
+    while i < h.len() {
+        let reused = differs(g, h[i]);
+        if reused {
+            return true;
+        }
+        i += 1;
+    }
+    false
+}
+
+// Whether g holds every command of h already.
+pub fn nothing_new(g: &[u64], h: &[u64]) -> bool
+    ensures { λ r. ⌜ r ≡ appending.nothingNew (now (g .entry)) (now (h .entry)) ⌝ }
+{
+    let mut i: usize = 0;
+    while i < h.len() {
+        let old = holds(g, h[i]);
+        if !old {
+            return false;
+        }
+        i += 1;
+    }
+    true
 }
 
 impl Merged {

@@ -1,10 +1,11 @@
 // Everything that a C or Rust host calls: each function hands its arguments to the proved step of a role. A slice is passed as a pointer to its
 // first byte and its length.
 ghost use mathlib.Core.Path.{_≡_};
+ghost use Rattle.acceptor.specs.Acceptor as accepting;
 ghost use Rattle.learner.specs.Learner as learning;
 ghost use Rattle.site.specs.Site as views;
 ghost use Rattle.viewchange.specs.ViewChange as change;
-ghost use Rattle.speckleewe.specs.Outcomes.{learnerOutcome, viewChangeOutcome};
+ghost use Rattle.speckleewe.specs.Outcomes.{acceptorOutcome, learnerOutcome, viewChangeOutcome};
 use learner::State;
 use roster::Roster;
 use site::ViewRecord;
@@ -23,6 +24,14 @@ pub struct ViewChangeOutcome {
     pub answer: u8,
     pub sent: usize,
     pub views: ViewRecord,
+}
+
+// What an acceptor's step answers: the answer's number, how many bytes of the buffer are to be sent, and the state after it.
+#[repr(C)]
+pub struct AcceptorOutcome {
+    pub answer: u8,
+    pub sent: usize,
+    pub state: acceptor::State,
 }
 
 // A fresh learner: nothing stored, nothing learned.
@@ -74,5 +83,36 @@ pub extern "C" fn view_change_step(
         answer: given.number(),
         sent: o.sent,
         views: after,
+    }
+}
+
+// A fresh acceptor: all 0 and empty.
+#[no_mangle]
+pub extern "C" fn acceptor_fresh() -> acceptor::State
+    ensures { λ s. ⌜ s ≡ accepting.fresh ⌝ }
+{
+    acceptor::State::fresh()
+}
+
+// One step of the acceptor of site `own`, in the view of its view-change record.
+#[no_mangle]
+pub extern "C" fn acceptor_step(
+    roster: Roster,
+    own: u8,
+    views: ViewRecord,
+    state: acceptor::State,
+    line: &[u8],
+    out: &mut [u8],
+) -> AcceptorOutcome
+    ensures { λ o. ⌜ (o ≡ acceptorOutcome (accepting.returned roster own views state (now (line .entry)) (now (out .entry)))) × (now (out .exit) ≡ accepting.output roster own views state (now (line .entry)) (now (out .entry))) ⌝ }
+{
+    let o = acceptor::step(roster, own, views, state, line, out);
+    let said = o.answer;
+    let bytes = o.sent;
+    let next = o.state;
+    AcceptorOutcome {
+        answer: said.number(),
+        sent: bytes,
+        state: next,
     }
 }

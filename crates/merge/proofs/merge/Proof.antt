@@ -3,7 +3,7 @@
 use mathlib.Core.Path.{_≡_, sym, ap, _∙_}
 use native.Mathlib.Omega.{arith}
 use borrow.Author.Needs.{needs}
-use borrow.Author.Tests.{not-true, not-false}
+use borrow.Author.Tests.{not-true, not-false, leb-true}
 use lib.ListN.{length, length-append}
 use lib.Seq.{length-take-le}
 use mathlib.Core.List.{List}
@@ -11,7 +11,8 @@ use Prim.Native.Nat.{ℕ}
 use lib.Dec.{leb}
 use Rattle.merge.specs.Merge.{appendedIn}
 use Rattle.merge.specs.Merged.{answerOf}
-use Rattle.merge.proofs.Answers.{merged-long-left, merged-long-right, merged-union, appended-in-work, take-appended, append-bound}
+use Rattle.merge.specs.AppendingLaws.{appended-in-work, take-appended, append-bound}
+use Rattle.merge.proofs.Answers.{merged-long-left, merged-long-right, merged-union}
 use Rattle.merge.proofs.merge.Statement.{statement}
 use Rattle.merge.proofs.merge.Tie as tie
 
@@ -70,7 +71,7 @@ returns-3 c =
     let short-h = not-false (leb (length h) 32) (if2 .left) in
     settle-call .ensures
     ∙ ap (λ (w : List ℕ). answerOf 32 w h)
-    (take-appended (fill-call .last .0) (length (given .g .now)) (given .h .now) (append-call .result) (append-call .last .0) (append-call .ensures .0) (append-call .ensures .1) ∙ ap (λ (b : List ℕ). appendedIn b (length g) h) (fill-call .ensures) ∙ appended-in-work g h short-g short-h)
+    (take-appended (fill-call .last .0) (length (given .g .now)) (given .h .now) (append-call .result) (append-call .last .0) (append-call .ensures .0) (append-call .ensures .1) ∙ ap (λ (b : List ℕ). appendedIn b (length g) h) (fill-call .ensures) ∙ appended-in-work g h (leb-true (length g) 32 short-g) (leb-true (length h) 32 short-h))
     ∙ sym (merged-union g h short-g short-h)
 
 pub merge-spec : {M : Type 1} → statement M

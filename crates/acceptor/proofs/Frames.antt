@@ -1,0 +1,65 @@
+-- Two lists laid one after the other in an array, and one turn of the loop that looks at each proposer.
+use mathlib.Core.Path.{_≡_, refl, ap, _∙_}
+use mathlib.Core.Bool.{true, false}
+use mathlib.Core.List.{List, [], _∷_, _++_, append-nil}
+use Prim.Native.Nat.{ℕ, zero, suc, _+_, _-_, _≤_, _<_}
+use native.Mathlib.Omega.{arith}
+use native.Mathlib.Nat.{sub-zero}
+use native.Mathlib.Numerals.{add-one}
+use lib.Dec.{eqb}
+use lib.ListN.{length, take, drop, getD, drop-of-length-le, length-drop}
+use lib.Seq.{drop-cons, length-take-le}
+use borrow.Rule.Slice.PartMut.{midOf, putMid}
+use Rattle.command.specs.Command.{proposer}
+use Rattle.history.specs.Words.{padded}
+use Rattle.history.specs.WordsLaws.{length-padded}
+use Rattle.acceptor.specs.Acceptor.{allBy}
+
+-- the first list fits, and the second is laid behind it; or the first list fills the array
+both : (n : ℕ) (g h : List ℕ) → length g ≤ n → take (length g) (padded n g) ++ padded (n - length g) h ≡ padded n (g ++ h)
+unfolding padded
+both n [] h p = rw sub-zero
+both zero (c ∷ g) h p = absurd (omega arith)
+both (suc n) (c ∷ g) h p =
+    let less : suc n - suc (length g) ≡ n - length g = omega arith in
+    rw less (ap (λ (l : List ℕ). c ∷ l) (both n g h (omega arith)))
+
+full : (n : ℕ) (g h : List ℕ) → n ≤ length g → padded n g ≡ padded n (g ++ h)
+unfolding padded
+full zero g h p = refl
+full (suc n) [] h p = absurd (omega arith)
+full (suc n) (c ∷ g) h p = ap (λ (l : List ℕ). c ∷ l) (full n g h (omega arith))
+
+-- w is dst with the first list, and y what the second leaves of the part of w behind it
+module _ (dst g h w : List ℕ) where
+  pub lay-both : (y : List ℕ) → w ≡ padded (length dst) g → y ≡ padded (length (midOf (length g) (length w - length g) w)) h → length g ≤ length w
+      → putMid (length g) (length w - length g) w y ≡ padded (length dst) (g ++ h)
+  lay-both y e f p =
+      let size : length w ≡ length dst = ap length e ∙ length-padded (length dst) g in
+      let part : length (midOf (length g) (length w - length g) w) ≡ length w - length g = length-take-le _ (drop (length g) w) (rw length-drop (omega arith)) in
+      let rest : length (midOf (length g) (length w - length g) w) ≡ length dst - length g = omega arith in
+      let behind : drop (length w - length g) (drop (length g) w) ≡ [] = drop-of-length-le (drop (length g) w) {i = length w - length g} (rw length-drop (omega arith)) in
+      rw (f, rest, behind, append-nil (padded (length dst - length g) h)) (rw e (both (length dst) g h (omega arith)))
+
+  pub lay-first : w ≡ padded (length dst) g → length w < length g → w ≡ padded (length dst) (g ++ h)
+  lay-first e p =
+      let size : length w ≡ length dst = ap length e ∙ length-padded (length dst) g in
+      e ∙ full (length dst) g h (omega arith)
+
+-- ---- the proposers of the commands from i on
+
+drop-next : (h : List ℕ) (i : ℕ) → i < length h → drop i h ≡ getD h i 0 ∷ drop (i + 1) h
+drop-next h i p = rw add-one (drop-cons h i 0 p)
+
+module _ (by : ℕ) (h : List ℕ) (i : ℕ) where
+  pub all-by-stop : i < length h → eqb (proposer (getD h i 0)) by ≡ false → allBy by (drop i h) ≡ false
+  unfolding allBy
+  all-by-stop p e = rw (drop-next h i p, e)
+
+  pub all-by-more : i < length h → eqb (proposer (getD h i 0)) by ≡ true → allBy by (drop i h) ≡ allBy by (drop (i + 1) h)
+  unfolding allBy
+  all-by-more p e = rw (drop-next h i p, e)
+
+  pub all-by-end : length h ≤ i → allBy by (drop i h) ≡ true
+  unfolding allBy
+  all-by-end p = rw (drop-of-length-le h p)

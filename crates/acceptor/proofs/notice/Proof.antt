@@ -1,0 +1,32 @@
+-- `acceptor::notice` meets its contract: the frame has the history by value as a list, and no other.
+-- Assumes nothing.
+use mathlib.Core.Path.{_∙_}
+use native.Mathlib.Omega.{arith}
+use lib.ListN.{length-take}
+use borrow.Author.Needs.{needs}
+use Rattle.acceptor.proofs.notice.Statement.{statement}
+use Rattle.acceptor.proofs.notice.Tie as tie
+
+cast-first : tie.Need-cast-first
+cast-first c = search needs
+
+first-requires : tie.Need-first-requires
+first-requires c κs = search needs
+
+slice-aggregate-message : tie.Need-slice-aggregate-message
+slice-aggregate-message c = search needs
+
+message-requires : tie.Need-message-requires
+message-requires c κs =
+    let first-call = c .before .first in
+    (rw (first-call .ensures, length-take) (omega arith), omega arith)
+
+returns : tie.Need-returns
+returns c =
+    let message-call = c .message in
+    let first-call = c .before .before .first in
+    message-call .ensures ∙ rw (first-call .ensures)
+
+pub notice-spec : {M : Type 1} → statement M
+notice-spec =
+    tie.close (tie.spec cast-first first-requires slice-aggregate-message message-requires returns)

@@ -1,0 +1,58 @@
+-- `acceptor::start` meets its contract: it asks the tests of SENDER and STALE in their order, and takes the ballot.
+-- Assumes nothing.
+use mathlib.Core.Path.{sym, _∙_}
+use Rattle.refusal.specs.Rules.{judged}
+use Rattle.acceptor.specs.Verdict.{onOpening}
+use borrow.Author.Needs.{needs}
+use Rattle.acceptor.proofs.start.Statement.{statement}
+use Rattle.acceptor.proofs.start.Tie as tie
+
+outsider-requires : tie.Need-outsider-requires
+outsider-requires c κs = tt
+
+against-requires : tie.Need-against-requires
+against-requires c κs = tt
+
+returns : tie.Need-returns
+unfolding judged onOpening
+returns c =
+    let outsider-call = c .before .before .outsider in
+    let if1 = c .before .if1 in
+    let against-call = c .against in
+    rw (sym (outsider-call .ensures) ∙ if1 .taken) (against-call .ensures)
+
+against-requires-2 : tie.Need-against-requires-2
+against-requires-2 c κs = tt
+
+returns-2 : tie.Need-returns-2
+unfolding judged onOpening
+returns-2 c =
+    let outsider-call = c .before .before .before .before .before .before .before .before .outsider in
+    let if1 = c .before .before .before .before .before .before .before .if1 in
+    let if2 = c .before .if2 in
+    let against2-call = c .against2 in
+    rw (sym (outsider-call .ensures) ∙ if1 .left, if2 .taken) (against2-call .ensures)
+
+take-requires : tie.Need-take-requires
+take-requires c κs = tt
+
+returns-3 : tie.Need-returns-3
+unfolding judged onOpening
+returns-3 c =
+    let outsider-call = c .before .before .before .before .before .before .before .before .outsider in
+    let if1 = c .before .before .before .before .before .before .before .if1 in
+    let if2 = c .before .if2 in
+    let take-call = c .take in
+    rw (sym (outsider-call .ensures) ∙ if1 .left, if2 .left) (take-call .ensures)
+
+pub start-spec : {M : Type 1} → statement M
+start-spec =
+    tie.close
+    (tie.spec
+    outsider-requires
+    against-requires
+    returns
+    against-requires-2
+    returns-2
+    take-requires
+    returns-3)

@@ -1,0 +1,222 @@
+-- One step of the acceptor: its outcome, how the proven history grows, and the frames that it sends.
+use mathlib.Core.Path.{_≡_, refl, sym, _∙_, subst}
+use mathlib.Core.Logic.{_⊎_, inl, inr}
+use mathlib.Core.Bool.{Bool, true, false}
+use mathlib.Core.List.{List, [], _++_, append-nil}
+use Prim.Native.Nat.{ℕ, _≤_}
+use native.Mathlib.Omega.{arith}
+use borrow.Author.Tests.{not-false}
+use lib.ListN.{length, take, length-take}
+use Rattle.roster.specs.declared.Roster.{Roster}
+use Rattle.roster.specs.Roster.{quorum}
+use Rattle.roster.specs.Mask.{reaches}
+use Rattle.roster.specs.SitesLaws.{and-left, and-right}
+use Rattle.history.specs.History.{Extends, extends, canonical}
+use Rattle.history.specs.ExtensionLaws.{extends-refl, extends-sound}
+use Rattle.history.specs.Words.{limit, padded}
+use Rattle.history.specs.WordsLaws.{commands-stored, take-padded}
+use Rattle.merge.specs.Merge.{appended}
+use Rattle.refusal.specs.declared.Refusal.{Refusal}
+use Rattle.refusal.specs.JudgedLaws.{GivenFirst, NoneHolds, passed, pass, Judgement, refused, accepts, judgement, rising}
+use Rattle.frame.specs.declared.Frame.{Frame}
+use Rattle.frame.specs.Layout.{capacity, first}
+use Rattle.frame.specs.Format.{readingOf, malformed}
+use Rattle.frame.specs.FormatLaws.{found-n}
+use Rattle.site.specs.declared.ViewRecord.{ViewRecord}
+use Rattle.site.specs.Reply.{silent, sends, Reply, refuse, accept}
+use Rattle.site.specs.ReplyLaws.{silent-sends, sends-same}
+use Rattle.acceptor.specs.declared.State.{State}
+use Rattle.acceptor.specs.Acceptor.{
+  Kind,
+  P1A,
+  FAST,
+  PROPOSE,
+  P2A,
+  VERIFY,
+  kindOf,
+  taken,
+  received,
+  carried,
+  heldOf,
+  provenOf,
+  config,
+  form,
+  sender,
+  stale,
+  wrongIn,
+  improperIn,
+  behind,
+  reused,
+  entryOf,
+  contradicts,
+  nothing,
+  full,
+  p1b,
+  verify,
+  p2b,
+  inBallot,
+  signing,
+  sign,
+  verifiedBy,
+  certificateOf,
+  proves,
+  storing,
+  proving,
+  store,
+  accepted,
+  rules,
+  step,
+}
+
+-- ---- the outcome of a step
+
+-- the kind of the frame that a line holds
+abbrev kindIn : List ℕ → Kind
+kindIn line = kindOf (received line .kind)
+
+-- an accepted frame: no check applies
+pub record Accepts (r : Roster) (own room : ℕ) (v : ViewRecord) (s : State) (line : List ℕ) : Type 0 where
+  pub configured : config r own room v s ≡ false
+  pub framed : form line ≡ false
+  pub from-sender : sender (kindIn line) r (received line) ≡ false
+  pub timely : stale (kindIn line) v s (received line) ≡ false
+  pub right : wrongIn (kindIn line) (received line) ≡ false
+  pub proper : improperIn (kindIn line) (received line) ≡ false
+  pub ahead : behind (kindIn line) s (received line) ≡ false
+  pub unused : reused (kindIn line) s (received line) ≡ false
+  pub agrees : contradicts (kindIn line) s (received line) ≡ false
+  pub something : nothing (kindIn line) s (received line) ≡ false
+  pub fits : full (kindIn line) s (received line) ≡ false
+  pub outcome : step r own room v s line ≡ accepted (kindIn line) r own v s (received line)
+
+pub data Stepped (r : Roster) (own room : ℕ) (v : ViewRecord) (s : State) (line : List ℕ) : Type 0 where
+  refuses : (e : Refusal) → GivenFirst e (rules r own room v s line) → step r own room v s line ≡ refuse s e → Stepped r own room v s line
+  accepting : Accepts r own room v s line → Stepped r own room v s line
+
+pub stepped : (r : Roster) (own room : ℕ) (v : ViewRecord) (s : State) (line : List ℕ) → Stepped r own room v s line
+unfolding step
+stepped r own room v s line = go (judgement (refuse s) (accepted (kindIn line) r own v s (received line)) (rules r own room v s line))
+  where
+    none : NoneHolds (rules r own room v s line) → step r own room v s line ≡ accepted (kindIn line) r own v s (received line) → Accepts r own room v s line
+    none (pass a (pass b (pass c (pass d (pass e (pass f (pass g (pass h (pass i (pass j (pass k passed))))))))))) o =
+        record {
+          configured = a;
+          framed = b;
+          from-sender = c;
+          timely = d;
+          right = e;
+          proper = f;
+          ahead = g;
+          unused = h;
+          agrees = i;
+          something = j;
+          fits = k;
+          outcome = o;
+        }
+
+    go : Judgement (refuse s) (accepted (kindIn line) r own v s (received line)) (rules r own room v s line) → Stepped r own room v s line
+    go (refused e g o) = refuses e g o
+    go (accepts n o) = accepting (none n o)
+
+-- "Checks run in this order": the numbers of the rules rise
+pub rules-rise : (r : Roster) (own room : ℕ) (v : ViewRecord) (s : State) (line : List ℕ) → rising 0 (rules r own room v s line) ≡ true
+unfolding rising
+rules-rise r own room v s line = refl
+
+-- what an accepted frame does: a ballot is opened, a history is signed, a VERIFY proves its history, is stored only, or has no effect
+pub data Effect (r : Roster) (own : ℕ) (v : ViewRecord) (s : State) (m : Frame) : Reply State → Type 0 where
+  opens-classic : Effect r own v s m (accept (inBallot s (m .ballot .0) 0) (sends (p1b own s (m .ballot .0))))
+  opens-fast : Effect r own v s m (accept (inBallot s (m .ballot .0) 1) silent)
+  signs : (h : List ℕ) → Effect r own v s m (accept (signing own s h) (sends (verify own v s h)))
+  proves-it : proves r s (verifiedBy s m) (carried m) ≡ true
+      → Effect r own v s m
+      (accept (proving s (verifiedBy s m) (certificateOf r (verifiedBy s m) (carried m)) (carried m))
+      (sends (p2b own s (certificateOf r (verifiedBy s m) (carried m)) (carried m))))
+  stores : Effect r own v s m (accept (storing s (verifiedBy s m)) silent)
+  ignores : Effect r own v s m (accept s silent)
+
+pub effect : (k : Kind) (r : Roster) (own : ℕ) (v : ViewRecord) (s : State) (m : Frame) → Effect r own v s m (accepted k r own v s m)
+unfolding sign store
+effect P1A r own v s m = opens-classic
+effect FAST r own v s m = opens-fast
+effect PROPOSE r own v s m = signs (canonical (appended (heldOf s) (carried m)))
+effect P2A r own v s m = signs (carried m)
+effect VERIFY r own v s m = go (extends (carried m) (entryOf s m)) (proves r s (verifiedBy s m) (carried m)) refl refl
+  where
+    go : (a b : Bool) → extends (carried m) (entryOf s m) ≡ a → proves r s (verifiedBy s m) (carried m) ≡ b
+        → Effect r own v s m (accepted VERIFY r own v s m)
+    go true true p q = rw (p, q) (proves-it q)
+    go true false p q = rw (p, q) stores
+    go false b p q = rw p ignores
+
+-- ---- the proven history
+
+-- what is proven next extends the proven history
+proves-extends : (r : Roster) (s : State) (m : Frame) → proves r s (verifiedBy s m) (carried m) ≡ true → Extends (carried m) (provenOf s)
+unfolding proves
+proves-extends r s m e =
+    let h = carried m in
+    extends-sound h (provenOf s)
+    (and-left (extends h (provenOf s)) _ (and-right (reaches (certificateOf r (verifiedBy s m) h) (quorum r)) _ e))
+
+-- the history of a frame that FORM lets pass has at most 32 commands, so it is stored whole
+carried-short : (line : List ℕ) → form line ≡ false → length (carried (received line)) ≤ limit
+unfolding malformed
+carried-short line e = rw length-take (omega (arith, found-n line taken (not-false (readingOf line taken .found) e)))
+
+effect-grows : {r : Roster} {own : ℕ} {v : ViewRecord} {s : State} {m : Frame} {o : Reply State} → length (carried m) ≤ limit → Effect r own v s m o
+    → Extends (provenOf (o .state)) (provenOf s)
+effect-grows {s = s} l opens-classic = extends-refl (provenOf s)
+effect-grows {s = s} l opens-fast = extends-refl (provenOf s)
+effect-grows {s = s} l (signs h) = extends-refl (provenOf s)
+effect-grows {r} {s = s} {m = m} l (proves-it e) = rw (commands-stored (carried m) l) (proves-extends r s m e)
+effect-grows {s = s} l stores = extends-refl (provenOf s)
+effect-grows {s = s} l ignores = extends-refl (provenOf s)
+
+-- whatever the state, and whoever sent the line: the proven history only grows
+pub proven-grows : (r : Roster) (own room : ℕ) (v : ViewRecord) (s : State) (line : List ℕ)
+    → Extends (provenOf (step r own room v s line .state)) (provenOf s)
+proven-grows r own room v s line = go (stepped r own room v s line)
+  where
+    go : Stepped r own room v s line → Extends (provenOf (step r own room v s line .state)) (provenOf s)
+    go (refuses e g o) = rw o (extends-refl (provenOf s))
+    go (accepting a) = rw (a .outcome) (effect-grows (carried-short line (a .framed)) (effect (kindIn line) r own v s (received line)))
+
+-- ---- the frames that are sent
+
+-- a P1B, VERIFY or P2B from `own`; a P2B carries the history that is proven in state s
+pub record Message (own : ℕ) (s : State) (m : Frame) : Type 0 where
+  pub kind : (m .kind ≡ 3) ⊎ ((m .kind ≡ 6) ⊎ (m .kind ≡ 7))
+  pub sender : m .sender ≡ own
+  pub vote : m .kind ≡ 7 → first m ≡ provenOf s
+
+-- the first list of a frame with one list
+first-is : (h : List ℕ) → length h ≤ capacity → take (length h) (padded capacity (h ++ [])) ≡ h
+first-is h l = rw (append-nil h) (take-padded capacity h l)
+
+effect-sends : {r : Roster} {own : ℕ} {v : ViewRecord} {s : State} {m : Frame} {o : Reply State} → length (carried m) ≤ limit → Effect r own v s m o
+    → {x : Frame} → o .sending ≡ sends x → Message own (o .state) x
+effect-sends {own = own} {s = s} {m = m} l opens-classic h =
+    subst (Message own (inBallot s (m .ballot .0) 0)) (sends-same h) (record { kind = inl refl; sender = refl; vote = λ e. absurd (omega arith) })
+effect-sends l opens-fast h = absurd (silent-sends h)
+effect-sends {own = own} {s = s} l (signs g) h =
+    subst (Message own (signing own s g)) (sends-same h) (record { kind = inr (inl refl); sender = refl; vote = λ e. absurd (omega arith) })
+effect-sends {r} {own} {s = s} {m = m} l (proves-it e) h =
+    subst (Message own (proving s (verifiedBy s m) (certificateOf r (verifiedBy s m) (carried m)) (carried m))) (sends-same h)
+    (record {
+      kind = inr (inr refl);
+      sender = refl;
+      vote = λ e. first-is (carried m) (omega arith) ∙ sym (commands-stored (carried m) l);
+    })
+effect-sends l stores h = absurd (silent-sends h)
+effect-sends l ignores h = absurd (silent-sends h)
+
+-- each frame that a step sends is one, and of a P2B the state is the one that the step leaves
+pub sends-message : (r : Roster) (own room : ℕ) (v : ViewRecord) (s : State) (line : List ℕ) {m : Frame} → step r own room v s line .sending ≡ sends m
+    → Message own (step r own room v s line .state) m
+sends-message r own room v s line {m} h = go (stepped r own room v s line)
+  where
+    go : Stepped r own room v s line → Message own (step r own room v s line .state) m
+    go (refuses e g o) = absurd (silent-sends (rw o at h))
+    go (accepting a) =
+        rw (a .outcome) (effect-sends (carried-short line (a .framed)) (effect (kindIn line) r own v s (received line)) (rw (a .outcome) at h))

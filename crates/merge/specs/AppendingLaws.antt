@@ -1,0 +1,23 @@
+-- Appending in a buffer: what is in it then, and that a buffer of 64 has room for two histories of 32.
+use mathlib.Core.Path.{_≡_, sym}
+use mathlib.Core.List.{List, _++_}
+use Prim.Native.Nat.{ℕ, _≤_}
+use native.Mathlib.Omega.{arith}
+use lib.ListN.{length, take, drop, length-append}
+use lib.Seq.{take-all, take-at}
+use Rattle.history.specs.Words.{padded}
+use Rattle.history.specs.WordsLaws.{length-padded, take-padded}
+use Rattle.merge.specs.Merge.{appended, appendedIn}
+use Rattle.merge.specs.MergeLaws.{length-appended}
+
+pub appended-in-work : (g h : List ℕ) → length g ≤ 32 → length h ≤ 32 → appendedIn (padded 64 g) (length g) h ≡ appended g h
+appended-in-work g h p q =
+    rw (length-padded 64 g, take-padded 64 g (omega arith)) (take-all 64 (appended g h) (omega (arith, length-appended g h)))
+
+-- after `append`, the first n words of w are what was appended, and w has so many
+module _ (b : List ℕ) (k : ℕ) (h : List ℕ) (n : ℕ) (w : List ℕ) (p : n ≡ length (appendedIn b k h)) (q : w ≡ appendedIn b k h ++ drop n b) where
+  pub take-appended : take n w ≡ appendedIn b k h
+  take-appended = rw q (take-at (appendedIn b k h) (drop n b) n (sym p))
+
+  pub append-bound : n ≤ length w
+  append-bound = rw (q, length-append) (omega arith)

@@ -1,0 +1,195 @@
+// One site over lines from standard input: its view change and its acceptor, which share the view-change record. A line that starts with
+// `#` is a comment and is copied; `=` with six hex digits, N, f and the own number, starts again with a fresh site; any other line is a
+// frame handed in, and gets a line with the answer and, where a frame is sent, a blank and that frame.
+use acceptor::State;
+use libc::STDIN_FILENO;
+use libc::STDOUT_FILENO;
+use roster::Roster;
+use site::ViewRecord;
+
+const LINE_FEED: u8 = 10;
+
+// What a site is and keeps: roster, own number, view-change record, and the acceptor's state.
+struct Site {
+    roster: Roster,
+    own: u8,
+    views: ViewRecord,
+    state: State,
+}
+
+// What stands between two reads of the input: the site, how many bytes are kept of the line that arrives, and whether the input is over.
+struct Stream {
+    site: Site,
+    len: usize,
+    over: bool,
+}
+
+// The first n bytes, or all of them if there are fewer.
+fn first<'a>(bytes: &'a [u8], n: usize) -> &'a [u8] {
+    if n <= bytes.len() { &bytes[..n] } else { bytes }
+}
+
+// Writes bytes to standard output.
+fn put(bytes: &[u8]) {
+    io::write_all(STDOUT_FILENO, bytes);
+}
+
+// Writes the answer's number and what is sent, which ends with a line feed.
+fn say(number: u8, sent: &[u8]) {
+    io::print_decimal(STDOUT_FILENO, number as u64);
+    if sent.len() == 0 {
+        put(b"\n");
+    } else {
+        put(b" ");
+        put(sent);
+    }
+}
+
+// A fresh site.
+fn fresh(roster: Roster, own: u8) -> Site {
+    Site {
+        roster,
+        own,
+        views: ViewRecord::fresh(),
+        state: State::fresh(),
+    }
+}
+
+// The fresh site of a line `=NNffoo`; a bad line counts as N=0, and a bad own number as 0.
+fn restart(line: &[u8]) -> Site {
+    if line.len() != 8 {
+        return fresh(Roster { n: 0, f: 0 }, 0);
+    }
+    let figures = [line[1], line[2], line[3], line[4], line[7]];
+    let number = [line[5], line[6], b'0', b'0', line[7]];
+    let own = lines::roster_of(&number);
+    fresh(lines::roster_of(&figures), own.n)
+}
+
+// Whether a line is for the view change: its kind is SUSPICION, VIEWCHANGE or LEADER.
+fn for_view_change(line: &[u8]) -> bool {
+    if line.len() < 2 {
+        return false;
+    }
+    let k = line[1];
+    (line[0] == b'0') & ((k == b'8') | (k == b'9') | (k == b'a'))
+}
+
+// The site after a line for the view change.
+fn change(s: Site, line: &[u8], out: &mut [u8]) -> Site {
+    let o = viewchange::step(s.roster, s.own, s.views, line, out);
+    let answer = o.answer;
+    say(answer.number(), first(out, o.sent));
+    let roster = s.roster;
+    let views = o.views;
+    let state = s.state;
+    Site {
+        roster,
+        own: s.own,
+        views,
+        state,
+    }
+}
+
+// The site after a line for the acceptor.
+fn accept(s: Site, line: &[u8], out: &mut [u8]) -> Site {
+    let o = acceptor::step(s.roster, s.own, s.views, s.state, line, out);
+    let answer = o.answer;
+    say(answer.number(), first(out, o.sent));
+    let roster = s.roster;
+    let views = s.views;
+    let state = o.state;
+    Site {
+        roster,
+        own: s.own,
+        views,
+        state,
+    }
+}
+
+// The site after a line.
+fn hear(s: Site, line: &[u8], out: &mut [u8]) -> Site {
+    if line.len() == 0 {
+        return s;
+    }
+    let mark = line[0];
+    if mark == b'#' {
+        put(line);
+        return s;
+    }
+    if mark == b'=' {
+        return restart(line);
+    }
+    let changes = for_view_change(line);
+    if changes {
+        return change(s, line, out);
+    }
+    accept(s, line, out)
+}
+
+// The stream after bytes of input.
+fn chunk(s: Stream, bytes: &[u8], line: &mut [u8], out: &mut [u8]) -> Stream {
+    let mut site = s.site;
+    let mut len = s.len;
+    let mut i: usize = 0;
+    while i < bytes.len() {
+        let b = bytes[i];
+        i += 1;
+        len = lines::push(line, len, b);
+        if b == LINE_FEED {
+            site = hear(site, first(line, len), out);
+            len = 0;
+        }
+    }
+    Stream {
+        site,
+        len,
+        over: s.over,
+    }
+}
+
+// The stream after one read of the input.
+fn turn(mut s: Stream, input: &mut [u8], line: &mut [u8], out: &mut [u8]) -> Stream {
+    let got = libc::read(STDIN_FILENO, input);
+    if got <= 0 {
+        s.over = true;
+        return s;
+    }
+    let n = io::count(got, input);
+    chunk(s, first(input, n), line, out)
+}
+
+// The stream after the whole input. A proved loop has to end, and nothing says that the input does. So the loop counts its turns
+// down, from a number that no run uses up.
+fn run(s: Stream, input: &mut [u8], line: &mut [u8], out: &mut [u8]) -> Stream {
+    let mut next = s;
+    let mut turns = u64::MAX;
+    while 0 < turns {
+        next = turn(next, input, line, out);
+        let stop = next.over;
+        if stop {
+            return next;
+        }
+        turns -= 1;
+    }
+    next
+}
+
+// Hands in the bytes after the last line feed, if there are any; they are no line.
+fn finish(s: Stream, line: &[u8], out: &mut [u8]) {
+    let site = s.site;
+    hear(site, first(line, s.len), out);
+}
+
+fn main() {
+    let mut input = io::large_buffer();
+    let mut line = [0u8; 1062];
+    let mut out = [0u8; frame::LONGEST];
+    let start = Stream {
+        site: fresh(Roster { n: 0, f: 0 }, 0),
+        len: 0,
+        over: false,
+    };
+    let last = run(start, &mut input, &mut line, &mut out);
+    finish(last, &line, &mut out);
+}
