@@ -93,8 +93,8 @@ pub fn nothing_new(g: &[u64], h: &[u64]) -> bool
 {
     let mut i: usize = 0;
     while i < h.len() {
-        let old = holds(g, h[i]);
-        if !old {
+        let held = holds(g, h[i]);
+        if !held {
             return false;
         }
         i += 1;

@@ -9,10 +9,10 @@ use Rattle.acceptor.proofs.lengthen.Statement.{statement}
 use Rattle.acceptor.proofs.lengthen.Tie as tie
 
 extends-requires : tie.Need-extends-requires
-extends-requires c κs = tt
+extends-requires c κs = search needs
 
 against-requires : tie.Need-against-requires
-against-requires c κs = tt
+against-requires c κs = search needs
 
 returns : tie.Need-returns
 unfolding judged
@@ -25,10 +25,10 @@ returns c =
     rw (extends-is (given .held .now) (given .proven .now) _ (sizes .0) (extends-call .ensures) ∙ not-true _ (if1 .taken)) (against-call .ensures)
 
 reuses-requires : tie.Need-reuses-requires
-reuses-requires c κs = tt
+reuses-requires c κs = search needs
 
 against-requires-2 : tie.Need-against-requires-2
-against-requires-2 c κs = tt
+against-requires-2 c κs = search needs
 
 returns-2 : tie.Need-returns-2
 unfolding judged
@@ -43,10 +43,10 @@ returns-2 c =
     rw (extends-is (given .held .now) (given .proven .now) _ (sizes .0) (extends-call .ensures) ∙ not-false _ (if1 .left), sym (reuses-call .ensures) ∙ if2 .taken) (against2-call .ensures)
 
 nothing-new-requires : tie.Need-nothing-new-requires
-nothing-new-requires c κs = tt
+nothing-new-requires c κs = search needs
 
 against-requires-3 : tie.Need-against-requires-3
-against-requires-3 c κs = tt
+against-requires-3 c κs = search needs
 
 returns-3 : tie.Need-returns-3
 unfolding judged

@@ -9,10 +9,10 @@ use Rattle.acceptor.proofs.obey.Statement.{statement}
 use Rattle.acceptor.proofs.obey.Tie as tie
 
 all-valid-requires : tie.Need-all-valid-requires
-all-valid-requires c κs = tt
+all-valid-requires c κs = search needs
 
 against-requires : tie.Need-against-requires
-against-requires c κs = tt
+against-requires c κs = search needs
 
 returns : tie.Need-returns
 unfolding judged wrong
@@ -23,10 +23,10 @@ returns c =
     rw (sym (all-valid-call .ensures) ∙ not-true _ (if1 .taken)) (against-call .ensures)
 
 improper-requires : tie.Need-improper-requires
-improper-requires c κs = tt
+improper-requires c κs = search needs
 
 against-requires-2 : tie.Need-against-requires-2
-against-requires-2 c κs = tt
+against-requires-2 c κs = search needs
 
 returns-2 : tie.Need-returns-2
 unfolding judged wrong
@@ -42,7 +42,7 @@ behind-requires : tie.Need-behind-requires
 behind-requires c κs = search needs
 
 against-requires-3 : tie.Need-against-requires-3
-against-requires-3 c κs = tt
+against-requires-3 c κs = search needs
 
 returns-3 : tie.Need-returns-3
 unfolding judged wrong
@@ -57,7 +57,7 @@ returns-3 c =
     rw (sym (all-valid-call .ensures) ∙ not-false _ (if1 .left), sym (improper-call .ensures) ∙ if2 .left, sym (behind-call .ensures) ∙ if3 .taken) (against3-call .ensures)
 
 sign-requires : tie.Need-sign-requires
-sign-requires c κs = tt
+sign-requires c κs = search needs
 
 returns-4 : tie.Need-returns-4
 unfolding judged wrong

@@ -8,10 +8,10 @@ use Rattle.acceptor.proofs.order.Statement.{statement}
 use Rattle.acceptor.proofs.order.Tie as tie
 
 outsider-requires : tie.Need-outsider-requires
-outsider-requires c κs = tt
+outsider-requires c κs = search needs
 
 against-requires : tie.Need-against-requires
-against-requires c κs = tt
+against-requires c κs = search needs
 
 returns : tie.Need-returns
 unfolding judged onOrder
@@ -22,7 +22,7 @@ returns c =
     rw (sym (outsider-call .ensures) ∙ if1 .taken) (against-call .ensures)
 
 against-requires-2 : tie.Need-against-requires-2
-against-requires-2 c κs = tt
+against-requires-2 c κs = search needs
 
 returns-2 : tie.Need-returns-2
 unfolding judged onOrder

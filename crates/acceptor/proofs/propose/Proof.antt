@@ -8,7 +8,7 @@ use Rattle.acceptor.proofs.propose.Statement.{statement}
 use Rattle.acceptor.proofs.propose.Tie as tie
 
 against-requires : tie.Need-against-requires
-against-requires c κs = tt
+against-requires c κs = search needs
 
 returns : tie.Need-returns
 unfolding judged onProposal
@@ -18,7 +18,7 @@ returns c =
     rw (if1 .taken) (against-call .ensures)
 
 against-requires-2 : tie.Need-against-requires-2
-against-requires-2 c κs = tt
+against-requires-2 c κs = search needs
 
 returns-2 : tie.Need-returns-2
 unfolding judged onProposal
@@ -29,13 +29,13 @@ returns-2 c =
     rw (if1 .left, if2 .taken) (against2-call .ensures)
 
 all-valid-requires : tie.Need-all-valid-requires
-all-valid-requires c κs = tt
+all-valid-requires c κs = search needs
 
 all-by-requires : tie.Need-all-by-requires
-all-by-requires c κs = tt
+all-by-requires c κs = search needs
 
 against-requires-3 : tie.Need-against-requires-3
-against-requires-3 c κs = tt
+against-requires-3 c κs = search needs
 
 returns-3 : tie.Need-returns-3
 unfolding judged onProposal wrong
@@ -49,10 +49,10 @@ returns-3 c =
     rw (if1 .left, if2 .left, ← all-valid-call .ensures, ← all-by-call .ensures, if3 .taken) (against3-call .ensures)
 
 repeated-requires : tie.Need-repeated-requires
-repeated-requires c κs = tt
+repeated-requires c κs = search needs
 
 against-requires-4 : tie.Need-against-requires-4
-against-requires-4 c κs = tt
+against-requires-4 c κs = search needs
 
 returns-4 : tie.Need-returns-4
 unfolding judged onProposal wrong

@@ -10,7 +10,7 @@ use Rattle.acceptor.proofs.verify.Statement.{statement}
 use Rattle.acceptor.proofs.verify.Tie as tie
 
 against-requires : tie.Need-against-requires
-against-requires c κs = tt
+against-requires c κs = search needs
 
 returns : tie.Need-returns
 unfolding judged onVerify
@@ -20,7 +20,7 @@ returns c =
     rw (if1 .taken) (against-call .ensures)
 
 against-requires-2 : tie.Need-against-requires-2
-against-requires-2 c κs = tt
+against-requires-2 c κs = search needs
 
 returns-2 : tie.Need-returns-2
 unfolding judged onVerify
@@ -31,10 +31,10 @@ returns-2 c =
     rw (if1 .left, if2 .taken) (against2-call .ensures)
 
 all-valid-requires : tie.Need-all-valid-requires
-all-valid-requires c κs = tt
+all-valid-requires c κs = search needs
 
 against-requires-3 : tie.Need-against-requires-3
-against-requires-3 c κs = tt
+against-requires-3 c κs = search needs
 
 returns-3 : tie.Need-returns-3
 unfolding judged onVerify wrong
@@ -47,10 +47,10 @@ returns-3 c =
     rw (if1 .left, if2 .left, sym (all-valid-call .ensures) ∙ not-true _ (if3 .taken)) (against3-call .ensures)
 
 improper-requires : tie.Need-improper-requires
-improper-requires c κs = tt
+improper-requires c κs = search needs
 
 against-requires-4 : tie.Need-against-requires-4
-against-requires-4 c κs = tt
+against-requires-4 c κs = search needs
 
 returns-4 : tie.Need-returns-4
 unfolding judged onVerify wrong
