@@ -8,6 +8,7 @@ trap 'rm -f "$log"' EXIT
 rt ci | tee "$log"
 last=$(tail -n 1 "$log")
 rt staticlib speckleewe >/dev/null
+python3 tests/tables/site_lines.py --check crates/site_lines
 tests/learn.sh target/bin/learn
 tests/model/run.sh target/staticlib/libspeckleewe.a --self
 tests/model/run.sh target/staticlib/libspeckleewe.a

@@ -1,7 +1,7 @@
 -- The acceptor, as document 01, "Acceptor", words it: its refusals in their order, and what an accepted frame does.
 use mathlib.Core.Bool.{Bool, true, false, not, cond, _&&_, _||_}
 use mathlib.Core.List.{List, [], _∷_, _++_}
-use Prim.Native.Nat.{ℕ, _+_}
+use Prim.Native.Nat.{ℕ}
 use lib.Dec.{leb, ltb, eqb}
 use lib.ListN.{length}
 use Rattle.roster.specs.declared.Roster.{Roster}
@@ -23,7 +23,7 @@ use Rattle.frame.specs.Layout.{capacity, first}
 use Rattle.frame.specs.Format.{readingOf, malformed}
 use Rattle.site.specs.declared.ViewRecord.{ViewRecord}
 use Rattle.site.specs.Site.{seated, validRecord}
-use Rattle.site.specs.Reply.{Sending, silent, sends, Reply, refuse, accept, lengthSent, buffer}
+use Rattle.site.specs.Reply.{silent, sends, Reply, refuse, accept, lengthSent, buffer}
 use Rattle.acceptor.specs.declared.State.{State}
 use Rattle.acceptor.specs.declared.Outcome.{Outcome}
 
@@ -78,8 +78,8 @@ isSet n = not (eqb n 0)
 
 -- ---- the refusals, each by the kind of the frame
 
--- CONFIG: roster, own number and buffer; a mask bit at N or above; "a count over 32, a wrong command, a repeated proposer and serial in one list,
--- a stored history not canonical, or a mask bit or entry at N or above"
+-- CONFIG: roster, own number and buffer; "lent state with a count over 32, a wrong command, a repeated proposer and serial in one list, a stored
+-- history not canonical, or a mask bit or entry at N or above", the record's masks among them
 unfoldable pub config : Roster → ℕ → ℕ → ViewRecord → State → Bool
 config r own room v s =
     not
