@@ -7,9 +7,13 @@ log=$(mktemp)
 trap 'rm -f "$log"' EXIT
 rt ci | tee "$log"
 last=$(tail -n 1 "$log")
-rt staticlib speckleewe >/dev/null
 python3 tests/tables/site_lines.py --check crates/site_lines
 tests/learn.sh target/bin/learn
-tests/model/run.sh target/staticlib/libspeckleewe.a --self
-tests/model/run.sh target/staticlib/libspeckleewe.a
+rt staticlib speckleewe >/dev/null
+library=target/staticlib/libspeckleewe.a
+tests/model/run.sh $library --self
+for role in learner viewchange acceptor; do
+    tests/model/run.sh $library $role
+done
+tests/cluster/run.sh $library
 echo "$last"

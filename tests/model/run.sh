@@ -1,23 +1,39 @@
-#!/bin/bash
-# Builds the driver against the static library given first and runs it with
-# the arguments that follow:
-#   run.sh LIBRARY [SEED [COUNT]]
-#   run.sh LIBRARY --self
+#!/usr/bin/env bash
+# Builds a program against the static library given first and runs it.
 set -eu
+here=$(cd -- "$(dirname -- "$0")" && pwd)
+. "$here/build.sh"
+
+usage() {
+    cat >&2 <<'TEXT'
+usage: run.sh LIBRARY [ROLE] [SEED [COUNT]]
+       run.sh LIBRARY --self
+Compares a role of the static library with its model on random frames, at
+least COUNT of them. ROLE is learner (if none is given), viewchange or
+acceptor. With --self only the models run, on cases worked out by hand.
+TEXT
+    exit 2
+}
 
 if [ $# -lt 1 ] || [ ! -f "$1" ]; then
-    echo "usage: run.sh LIBRARY [SEED [COUNT]] or run.sh LIBRARY --self" >&2
-    exit 2
+    usage
 fi
 library=$(realpath -- "$1")
 shift
 
-here=$(cd -- "$(dirname -- "$0")" && pwd)
 out=$here/../../target/model
-mkdir -p "$out"
-# A library without std brings a panic handler; the driver's own then stands,
-# so that a panic in the library is reported and ends the run.
-rustc -O --edition 2021 --crate-name learner_model \
-    -C link-arg="$library" -C link-arg=-Wl,--allow-multiple-definition \
-    -o "$out/learner-model" "$here/src/main.rs"
-exec "$out/learner-model" "$@"
+build_models "$out"
+case ${1-} in
+--self)
+    build_program "$out" self-test "$here/src/bin/selftest.rs"
+    exec "$out/self-test"
+    ;;
+learner | viewchange | acceptor)
+    role=$1
+    shift
+    ;;
+'' | [0-9]*) role=learner ;;
+*) usage ;;
+esac
+build_program "$out" "$role-model" "$here/src/bin/$role.rs" "$library"
+exec "$out/$role-model" "$@"

@@ -160,7 +160,7 @@ proves-extends r s m e =
     (and-left (extends h (provenOf s)) _ (and-right (reaches (certificateOf r (verifiedBy s m) h) (quorum r)) _ e))
 
 -- the history of a frame that FORM lets pass has at most 32 commands, so it is stored whole
-carried-short : (line : List ℕ) → form line ≡ false → length (carried (received line)) ≤ limit
+pub carried-short : (line : List ℕ) → form line ≡ false → length (carried (received line)) ≤ limit
 unfolding malformed
 carried-short line e = rw length-take (omega (arith, found-n line taken (not-false (readingOf line taken .found) e)))
 

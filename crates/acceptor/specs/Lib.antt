@@ -3,3 +3,4 @@ pub mod Acceptor
 pub mod Verdict
 pub mod VerdictLaws
 pub mod AcceptorLaws
+pub mod LineLaws

@@ -1,0 +1,520 @@
+-- Each frame that an acceptor sends has a line, which is what it leaves in the buffer; and no step leaves a state that CONFIG refuses.
+use mathlib.Core.Path.{_≡_, refl, sym, _∙_, subst}
+use mathlib.Core.Bool.{Bool, true, false, not, cond, _&&_, false≢true}
+use mathlib.Core.List.{List, [], _∷_, _++_}
+use Prim.Native.Nat.{ℕ, zero, suc, _^_, _≤_, _<_}
+use native.Mathlib.Nat.{lt-of-lt-of-le}
+use native.Mathlib.Omega.{arith}
+use borrow.Author.Tests.{le-leb, leb-false, ltb-true, ltb-false, lt-ltb, not-true, not-false}
+use lib.Dec.{ltb, lit<}
+use lib.ListN.{length, take, drop, length-append}
+use lib.Pow.{pow-mono, pow-pos}
+use Rattle.roster.specs.declared.Roster.{Roster}
+use Rattle.roster.specs.RosterLaws.{valid-figures}
+use Rattle.roster.specs.Mask.{beyond}
+use Rattle.roster.specs.MaskLaws.{mask-lt, mask-inside, beyond-false}
+use Rattle.roster.specs.SitesLaws.{and-left, and-right}
+use Rattle.command.specs.Command.{allValid}
+use Rattle.history.specs.History.{Equivalent, same, swap, keep, trans, present, canonical, extends, validHistory, improper}
+use Rattle.history.specs.TakesLaws.{equivalent-sym}
+use Rattle.history.specs.CanonicalLaws.{canonical-equivalent, canonical-length, canonical-is-canonical}
+use Rattle.history.specs.OrderLaws.{or-left, repeated-along, all-valid-along}
+use Rattle.history.specs.ValidLaws.{valid-parts, parts-valid, not-improper, valid-nil}
+use Rattle.history.specs.Words.{limit, padded, validStored}
+use Rattle.history.specs.WordsLaws.{length-padded, stored-valid, valid-stored-history, valid-stored-length}
+use Rattle.merge.specs.Merge.{appended}
+use Rattle.merge.specs.MergeLaws.{appended-all-valid, appended-distinct}
+use Rattle.table.specs.declared.Table.{Table}
+use Rattle.table.specs.Table.{validTable}
+use Rattle.table.specs.ValidLaws.{valid-stored, valid-empty}
+use Rattle.refusal.specs.declared.Refusal.{Refusal}
+use Rattle.frame.specs.declared.Frame.{Frame}
+use Rattle.frame.specs.Hex.{allFit}
+use Rattle.frame.specs.Layout.{capacity, widths}
+use Rattle.frame.specs.Kinds.{uses, isKind, unusedZero, zeroUnless}
+use Rattle.frame.specs.Format.{readingOf, malformed, proper, allZero, writable}
+use Rattle.frame.specs.Format as format
+use Rattle.frame.specs.FormatLaws.{Written, writable-is, is-writable, found-writable}
+use Rattle.site.specs.declared.ViewRecord.{ViewRecord}
+use Rattle.site.specs.Site.{seated, validRecord}
+use Rattle.site.specs.SiteLaws.{seated-is}
+use Rattle.site.specs.Reply.{silent, sends, Reply, refuse, accept}
+use Rattle.site.specs.ReplyLaws.{silent-sends, sends-same, Sent, sent-line}
+use Rattle.acceptor.specs.declared.State.{State}
+use Rattle.acceptor.specs.Acceptor.{
+  fresh,
+  Kind,
+  P1A,
+  FAST,
+  PROPOSE,
+  P2A,
+  VERIFY,
+  kindOf,
+  taken,
+  received,
+  carried,
+  heldOf,
+  provenOf,
+  config,
+  form,
+  sender,
+  wrong,
+  wrongIn,
+  improperIn,
+  full,
+  entryOf,
+  message,
+  p1b,
+  verify,
+  p2b,
+  inBallot,
+  signing,
+  sign,
+  verifiedBy,
+  matches,
+  certificateOf,
+  proves,
+  storing,
+  proving,
+  store,
+  accepted,
+  step,
+}
+use Rattle.acceptor.specs.AcceptorLaws.{Accepts, Stepped, refuses, accepting, stepped, carried-short}
+
+-- ---- words of eight bytes
+
+-- each word of a list fits eight bytes
+pub data EachFits : List ℕ → Type 0 where
+  none : EachFits []
+  more : {c : ℕ} {l : List ℕ} → c < 2 ^ 64 → EachFits l → EachFits (c ∷ l)
+
+-- so it is with a part of it, with two lists of such words, and with zeros after them
+each-take : (n : ℕ) {l : List ℕ} → EachFits l → EachFits (take n l)
+each-take zero w = none
+each-take (suc n) none = none
+each-take (suc n) (more p w) = more p (each-take n w)
+
+each-append : {g h : List ℕ} → EachFits g → EachFits h → EachFits (g ++ h)
+each-append none w = w
+each-append (more p v) w = more p (each-append v w)
+
+each-padded : (n : ℕ) {l : List ℕ} → EachFits l → EachFits (padded n l)
+unfolding padded
+each-padded zero w = none
+each-padded (suc n) none = more (lit< tt) (each-padded n none)
+each-padded (suc n) (more p w) = more p (each-padded n w)
+
+-- with the same words in another order, and with more appended
+each-along : {g h : List ℕ} → Equivalent g h → EachFits g → EachFits h
+each-along same w = w
+each-along (swap p) (more a (more b w)) = more b (more a w)
+each-along (keep e) (more a w) = more a (each-along e w)
+each-along (trans e f) w = each-along f (each-along e w)
+
+each-appended : {g h : List ℕ} → EachFits g → EachFits h → EachFits (appended g h)
+unfolding appended
+each-appended v none = v
+each-appended {g} v (more {c = c} p w) = each-appended (next (present c g)) w
+  where
+    next : (b : Bool) → EachFits (cond b g (g ++ c ∷ []))
+    next true = v
+    next false = each-append v (more p none)
+
+-- as the format has it
+each-fit : (n : ℕ) {l : List ℕ} → EachFits l → length l ≡ n → allFit (format.commands n) l ≡ true
+unfolding allFit
+each-fit zero none e = refl
+each-fit zero (more p w) e = absurd (omega (arith, e))
+each-fit (suc n) none e = absurd (omega (arith, e))
+each-fit (suc n) (more {c = c} p w) e = rw (lt-ltb c (2 ^ 64) p) (each-fit n w (omega (arith, e)))
+
+fit-each : (n : ℕ) (l : List ℕ) → allFit (format.commands n) l ≡ true → EachFits l
+unfolding allFit
+fit-each zero [] e = none
+fit-each zero (c ∷ l) e = absurd (false≢true e)
+fit-each (suc n) [] e = absurd (false≢true e)
+fit-each (suc n) (c ∷ l) e = more (ltb-true c (2 ^ 64) (and-left (ltb c (2 ^ 64)) _ e)) (fit-each n l (and-right (ltb c (2 ^ 64)) _ e))
+
+-- ---- which messages have a line
+
+-- after a list that is padded stand zeros
+padded-clear : (n : ℕ) (l : List ℕ) → allZero (drop (length l) (padded n l)) ≡ true
+unfolding padded allZero
+padded-clear zero [] = refl
+padded-clear zero (c ∷ l) = refl
+padded-clear (suc n) [] = padded-clear n []
+padded-clear (suc n) (c ∷ l) = padded-clear n l
+
+-- a header of numbers that fit
+header-fits : (kind own view ballot proven mask n m : ℕ) → kind < 256 → own < 256 → view < 2 ^ 32 → ballot < 2 ^ 32 → proven < 2 ^ 32 → mask < 2 ^ 16
+    → n < 256 → m < 256 → allFit widths (kind ∷ own ∷ view ∷ ballot ∷ proven ∷ mask ∷ n ∷ m ∷ []) ≡ true
+unfolding allFit
+header-fits kind own view ballot proven mask n m a b c d e f g h =
+    rw (
+      lt-ltb kind 256 a,
+      lt-ltb own 256 b,
+      lt-ltb view (2 ^ 32) c,
+      lt-ltb ballot (2 ^ 32) d,
+      lt-ltb proven (2 ^ 32) e,
+      lt-ltb mask (2 ^ 16) f,
+      lt-ltb n 256 g,
+      lt-ltb m 256 h,
+    )
+
+-- a proper message of such numbers, with two lists of at most 32 words
+module _ (kind own view ballot proven mask : ℕ) {h k : List ℕ} (p : length h ≤ limit) (q : length k ≤ limit) (v : EachFits h) (w : EachFits k) where
+  message-writable : kind < 256 → own < 256 → view < 2 ^ 32 → ballot < 2 ^ 32 → proven < 2 ^ 32 → mask < 2 ^ 16
+      → proper (message kind own view ballot proven mask h k) ≡ true → writable (message kind own view ballot proven mask h k) ≡ true
+  message-writable a b c d e f good =
+      is-writable (message kind own view ballot proven mask h k)
+      (record {
+        values-proper = good;
+        clear = subst (λ (n : ℕ). allZero (drop n (padded capacity (h ++ k))) ≡ true) (length-append h k) (padded-clear capacity (h ++ k));
+        header-fits = header-fits kind own view ballot proven mask (length h) (length k) a b c d e f (omega arith) (omega arith);
+        words-fit = each-fit capacity (each-padded capacity (each-append v w)) (length-padded capacity (h ++ k));
+      })
+
+-- P1B, VERIFY and P2B leave 0 what their kind doesn't use
+p1b-proper : (own ballot proven mask : ℕ) (h k : List ℕ) → length h ≤ limit → length k ≤ limit → proper (message 3 own 0 ballot proven mask h k) ≡ true
+unfolding proper isKind uses unusedZero zeroUnless
+p1b-proper own ballot proven mask h k p q = rw (le-leb (length h) limit p, le-leb (length k) limit q)
+
+verify-proper : (own view ballot : ℕ) (h : List ℕ) → length h ≤ limit → proper (message 6 own view ballot 0 0 h []) ≡ true
+unfolding proper isKind uses unusedZero zeroUnless
+verify-proper own view ballot h p = rw (le-leb (length h) limit p)
+
+p2b-proper : (own ballot mask : ℕ) (h : List ℕ) → length h ≤ limit → proper (message 7 own 0 ballot 0 mask h []) ≡ true
+unfolding proper isKind uses unusedZero zeroUnless
+p2b-proper own ballot mask h p = rw (le-leb (length h) limit p)
+
+-- ---- what CONFIG lets pass
+
+-- a state that may be lent, for n sites
+pub record Lendable (n : ℕ) (s : State) : Type 0 where
+  pub held-valid : validStored (s .held) ≡ true
+  pub proven-valid : validStored (s .proven) ≡ true
+  pub inside : beyond (s .certificate) n ≡ false
+  pub table-valid : validTable n (s .verified) ≡ true
+
+pub record Configured (r : Roster) (own room : ℕ) (v : ViewRecord) (s : State) : Type 0 where
+  pub seat : seated r own room ≡ true
+  pub views : validRecord (r .n) v ≡ true
+  pub lent : Lendable (r .n) s
+
+pub configured-is : (r : Roster) (own room : ℕ) (v : ViewRecord) (s : State) → config r own room v s ≡ false → Configured r own room v s
+unfolding config
+configured-is r own room v s e =
+    let outside = not (beyond (s .certificate) (r .n)) in
+    let a = not-false (seated r own room && _) e in
+    let b = and-right (seated r own room) _ a in
+    let c = and-right (validRecord (r .n) v) _ b in
+    let d = and-right (validStored (s .held)) _ c in
+    let f = and-right (validStored (s .proven)) _ d in
+    record {
+      seat = and-left (seated r own room) _ a;
+      views = and-left (validRecord (r .n) v) _ b;
+      lent = record {
+        held-valid = and-left (validStored (s .held)) _ c;
+        proven-valid = and-left (validStored (s .proven)) _ d;
+        inside = not-true (beyond (s .certificate) (r .n)) (and-left outside _ f);
+        table-valid = and-right outside _ f;
+      };
+    }
+
+pub is-configured : (r : Roster) (own room : ℕ) (v : ViewRecord) (s : State) → Configured r own room v s → config r own room v s ≡ false
+unfolding config
+is-configured r own room v s c =
+    rw (c .seat, c .views, c .lent .held-valid, c .lent .proven-valid, c .lent .inside, c .lent .table-valid)
+
+-- ---- the frame that was read
+
+module _ (line : List ℕ) (e : form line ≡ false) where
+  written : Written (received line)
+  unfolding malformed
+  written = writable-is (received line) (found-writable line taken (not-false (readingOf line taken .found) e))
+
+  -- its words and its ballot fit
+  carried-fits : EachFits (carried (received line))
+  carried-fits = each-take (received line .n) (fit-each capacity (received line .words) (written .words-fit))
+
+  ballot-fits : received line .ballot .0 < 2 ^ 32
+  unfolding allFit
+  ballot-fits =
+      let m = received line in
+      let rest = and-right (ltb (m .view .0) (2 ^ 32)) _ (and-right (ltb (m .sender) 256) _ (and-right (ltb (m .kind) 256) _ (written .header-fits))) in
+      ltb-true (m .ballot .0) (2 ^ 32) (and-left (ltb (m .ballot .0) (2 ^ 32)) _ rest)
+
+-- ---- the history that is signed or stored
+
+-- a valid one of at most 32 commands, whose words fit where those that are held do
+record Checked (s : State) (h : List ℕ) : Type 0 where
+  short : length h ≤ limit
+  valid : validHistory h ≡ true
+  words : EachFits (heldOf s) → EachFits h
+
+right-commands : (h : List ℕ) → wrong h ≡ false → allValid h ≡ true
+unfolding wrong
+right-commands h e = not-false (allValid h) e
+
+-- that of a P2A or a VERIFY
+carried-checked : (s : State) (line : List ℕ) → form line ≡ false → wrong (carried (received line)) ≡ false → improper (carried (received line)) ≡ false
+    → Checked s (carried (received line))
+carried-checked s line e p q =
+    let h = carried (received line) in
+    record { short = carried-short line e; valid = parts-valid (not-improper h (right-commands h p) q); words = λ w. carried-fits line e }
+
+-- the held history with the commands of a PROPOSE
+appended-checked : (s : State) (line : List ℕ) → form line ≡ false → validStored (s .held) ≡ true → wrong (carried (received line)) ≡ false
+    → length (appended (heldOf s) (carried (received line))) ≤ limit → Checked s (canonical (appended (heldOf s) (carried (received line))))
+appended-checked s line e v p l =
+    let h = carried (received line) in
+    let all = appended (heldOf s) h in
+    let was = valid-parts (heldOf s) (valid-stored-history (s .held) v) in
+    let order = canonical-equivalent all in
+    record {
+      short = omega (arith, canonical-length all);
+      valid = parts-valid
+          (record {
+            commands = all-valid-along order ∙ appended-all-valid (heldOf s) h (was .commands) (right-commands h p);
+            distinct = repeated-along order ∙ appended-distinct (heldOf s) h (was .distinct);
+            in-order = canonical-is-canonical all;
+          });
+      words = λ w. each-along (equivalent-sym order) (each-appended w (carried-fits line e));
+    }
+
+-- ---- what a step replies
+
+-- what holds of a refusal, and of each reply to an accepted frame, holds of what a step replies
+module _ {r : Roster} {own room : ℕ} {v : ViewRecord} {s : State} {line : List ℕ} (P : Reply State → Type 0)
+    (on-refusal : (e : Refusal) → P (refuse s e))
+    (on-classic : Accepts r own room v s line → P (accept (inBallot s (received line .ballot .0) 0) (sends (p1b own s (received line .ballot .0)))))
+    (on-fast : Accepts r own room v s line → P (accept (inBallot s (received line .ballot .0) 1) silent))
+    (on-sign : Accepts r own room v s line → (h : List ℕ) → Checked s h → P (accept (signing own s h) (sends (verify own v s h))))
+    (on-prove : Accepts r own room v s line → received line .sender < r .n → Checked s (carried (received line))
+    → P
+    (accept
+    (proving s (verifiedBy s (received line)) (certificateOf r (verifiedBy s (received line)) (carried (received line))) (carried (received line)))
+    (sends (p2b own s (certificateOf r (verifiedBy s (received line)) (carried (received line))) (carried (received line))))))
+    (on-store : Accepts r own room v s line → received line .sender < r .n → Checked s (carried (received line))
+    → P (accept (storing s (verifiedBy s (received line))) silent))
+    (on-none : P (accept s silent)) where
+  -- a VERIFY
+  on-verify : Accepts r own room v s line → received line .sender < r .n → Checked s (carried (received line))
+      → P (accepted VERIFY r own v s (received line))
+  unfolding store
+  on-verify a p c =
+      go (extends (carried (received line)) (entryOf s (received line))) (proves r s (verifiedBy s (received line)) (carried (received line))) refl refl
+    where
+      go : (x y : Bool) → extends (carried (received line)) (entryOf s (received line)) ≡ x
+          → proves r s (verifiedBy s (received line)) (carried (received line)) ≡ y → P (accepted VERIFY r own v s (received line))
+      go true true e f = rw (e, f) (on-prove a p c)
+      go true false e f = rw (e, f) (on-store a p c)
+      go false y e f = rw e on-none
+
+  -- a frame of each kind, with what its checks say
+  on-kind : Accepts r own room v s line → (k : Kind) → sender k r (received line) ≡ false → wrongIn k (received line) ≡ false
+      → improperIn k (received line) ≡ false → full k s (received line) ≡ false → P (accepted k r own v s (received line))
+  unfolding sign
+  on-kind a P1A e f g h = on-classic a
+  on-kind a FAST e f g h = on-fast a
+  on-kind a PROPOSE e f g h =
+      let lent = configured-is r own room v s (a .configured) .lent in
+      on-sign a (canonical (appended (heldOf s) (carried (received line))))
+      (appended-checked s line (a .framed) (lent .held-valid) (or-left (wrong (carried (received line))) _ f) (ltb-false limit _ h))
+  on-kind a P2A e f g h = on-sign a (carried (received line)) (carried-checked s line (a .framed) f g)
+  on-kind a VERIFY e f g h = on-verify a (leb-false (r .n) (received line .sender) e) (carried-checked s line (a .framed) f g)
+
+  replies : Stepped r own room v s line → P (step r own room v s line)
+  replies (refuses e g o) = rw o (on-refusal e)
+  replies (accepting a) =
+      subst P (sym (a .outcome)) (on-kind a (kindOf (received line .kind)) (a .from-sender) (a .right) (a .proper) (a .fits))
+
+-- a step that sends has passed CONFIG
+config-passed : (r : Roster) (own room : ℕ) (v : ViewRecord) (s : State) (line : List ℕ) {m : Frame} → step r own room v s line .sending ≡ sends m
+    → config r own room v s ≡ false
+config-passed r own room v s line h = go (stepped r own room v s line)
+  where
+    go : Stepped r own room v s line → config r own room v s ≡ false
+    go (refuses e g o) = absurd (silent-sends (rw o at h))
+    go (accepting a) = a .configured
+
+-- ---- the frames that are sent
+
+-- numbers that fit their types, as those of each record, each state and each own number do
+pub record Fits (own : ℕ) (v : ViewRecord) (s : State) : Type 0 where
+  pub own-fits : own < 256
+  pub view-fits : v .view .0 < 2 ^ 32
+  pub ballot-fits : s .ballot .0 < 2 ^ 32
+  pub held-fits : EachFits (s .held .words)
+  pub proven-fits : EachFits (s .proven .words)
+  pub certified-fits : s .certified .0 < 2 ^ 32
+  pub certificate-fits : s .certificate < 2 ^ 16
+
+-- a certificate is of at most 16 sites
+certificate-lt : (r : Roster) (own room : ℕ) (v : ViewRecord) (s : State) (t : Table) (h : List ℕ) → config r own room v s ≡ false
+    → certificateOf r t h < 2 ^ 16
+unfolding certificateOf
+certificate-lt r own room v s t h e =
+    let seat = seated-is r own room (configured-is r own room v s e .seat) in
+    lt-of-lt-of-le (mask-lt (r .n) (matches t h)) (pow-mono (valid-figures r (seat .roster) .max-sites))
+
+module _ {own : ℕ} {v : ViewRecord} {s : State} (f : Fits own v s) where
+  held-each : EachFits (heldOf s)
+  held-each = each-take (s .held .count) (f .held-fits)
+
+  proven-each : EachFits (provenOf s)
+  proven-each = each-take (s .proven .count) (f .proven-fits)
+
+  -- P1B, VERIFY and P2B of such a state
+  p1b-writable : (n ballot : ℕ) → Lendable n s → ballot < 2 ^ 32 → writable (p1b own s ballot) ≡ true
+  p1b-writable n ballot c l =
+      let p = valid-stored-length (s .proven) (c .proven-valid) in
+      let q = valid-stored-length (s .held) (c .held-valid) in
+      message-writable 3 own 0 ballot (s .certified .0) (s .certificate) p q proven-each held-each (lit< tt) (f .own-fits) (lit< tt) l
+      (f .certified-fits) (f .certificate-fits) (p1b-proper own ballot (s .certified .0) (s .certificate) (provenOf s) (heldOf s) p q)
+
+  verify-writable : (h : List ℕ) → Checked s h → writable (verify own v s h) ≡ true
+  verify-writable h c =
+      message-writable 6 own (v .view .0) (s .ballot .0) 0 0 (c .short) (omega arith) (c .words held-each) none (lit< tt) (f .own-fits)
+      (f .view-fits) (f .ballot-fits) (lit< tt) (lit< tt) (verify-proper own (v .view .0) (s .ballot .0) h (c .short))
+
+  p2b-writable : (h : List ℕ) (mask : ℕ) → Checked s h → mask < 2 ^ 16 → writable (p2b own s mask h) ≡ true
+  p2b-writable h mask c l =
+      message-writable 7 own 0 (s .ballot .0) 0 mask (c .short) (omega arith) (c .words held-each) none (lit< tt) (f .own-fits) (lit< tt)
+      (f .ballot-fits) (lit< tt) l (p2b-proper own (s .ballot .0) mask h (c .short))
+
+  -- each frame that is sent has a line
+  pub sends-writable : (r : Roster) (room : ℕ) (line : List ℕ) {m : Frame} → step r own room v s line .sending ≡ sends m → writable m ≡ true
+  sends-writable r room line {m} e =
+      let x = received line in
+      let found : (y : Frame) → sends y ≡ sends m → writable y ≡ true → writable m ≡ true = λ y g w. subst (λ z. writable z ≡ true) (sends-same g) w in
+      replies (λ o. o .sending ≡ sends m → writable m ≡ true) (λ _ g. absurd (silent-sends g))
+      (λ a g. found _ g (p1b-writable (r .n) (x .ballot .0) (configured-is r own room v s (a .configured) .lent) (ballot-fits line (a .framed))))
+      (λ a g. absurd (silent-sends g)) (λ a h c g. found _ g (verify-writable h c))
+      (λ a p c g. found _ g (p2b-writable (carried x) _ c (certificate-lt r own room v s (verifiedBy s x) (carried x) (a .configured))))
+      (λ a p c g. absurd (silent-sends g)) (λ g. absurd (silent-sends g)) (stepped r own room v s line) e
+
+-- and what is sent is its line, since CONFIG asks for room
+pub sends-line : (r : Roster) (own : ℕ) (v : ViewRecord) (s : State) (line out : List ℕ) → Fits own v s → {m : Frame}
+    → step r own (length out) v s line .sending ≡ sends m → Sent m out
+sends-line r own v s line out f h =
+    let seat = configured-is r own (length out) v s (config-passed r own (length out) v s line h) .seat in
+    sent-line _ out (sends-writable f r (length out) line h) (seated-is r own (length out) seat .roomy)
+
+-- ---- the state
+
+-- the mask of a certificate stays within the sites
+certificate-inside : (r : Roster) (t : Table) (h : List ℕ) → beyond (certificateOf r t h) (r .n) ≡ false
+unfolding certificateOf
+certificate-inside r t h = mask-inside (r .n) (matches t h)
+
+-- so a step never leaves a state that CONFIG refuses
+keeps-lendable : (r : Roster) (own room : ℕ) (v : ViewRecord) (s : State) (line : List ℕ) → Lendable (r .n) s
+    → Lendable (r .n) (step r own room v s line .state)
+keeps-lendable r own room v s line c =
+    let x = received line in
+    let n = r .n in
+    let member : Accepts r own room v s line → own < n = λ a. seated-is r own room (configured-is r own room v s (a .configured) .seat) .member in
+    let opened : (fast : ℕ) → Lendable n (inBallot s (x .ballot .0) fast) = λ fast.
+    record { held-valid = c .held-valid; proven-valid = c .proven-valid; inside = c .inside; table-valid = valid-empty n } in
+    replies (λ o. Lendable n (o .state)) (λ _. c) (λ a. opened 0) (λ a. opened 1)
+    (λ a h k.
+    record {
+      held-valid = stored-valid h (k .short) (k .valid);
+      proven-valid = c .proven-valid;
+      inside = c .inside;
+      table-valid = valid-stored n (s .verified) own h (c .table-valid) (member a) (k .valid);
+    })
+    (λ a p k.
+    record {
+      held-valid = c .held-valid;
+      proven-valid = stored-valid (carried x) (k .short) (k .valid);
+      inside = certificate-inside r (verifiedBy s x) (carried x);
+      table-valid = valid-stored n (s .verified) (x .sender) (carried x) (c .table-valid) p (k .valid);
+    })
+    (λ a p k.
+    record {
+      held-valid = c .held-valid;
+      proven-valid = c .proven-valid;
+      inside = c .inside;
+      table-valid = valid-stored n (s .verified) (x .sender) (carried x) (c .table-valid) p (k .valid);
+    })
+    c (stepped r own room v s line)
+
+pub keeps-config : (r : Roster) (own room : ℕ) (v : ViewRecord) (s : State) (line : List ℕ) → config r own room v s ≡ false
+    → config r own room v (step r own room v s line .state) ≡ false
+keeps-config r own room v s line e =
+    let c = configured-is r own room v s e in
+    is-configured r own room v (step r own room v s line .state)
+    (record { seat = c .seat; views = c .views; lent = keeps-lendable r own room v s line (c .lent) })
+
+-- and a fresh one passes CONFIG
+fresh-lendable : (n : ℕ) → Lendable n fresh
+fresh-lendable n =
+    let empty = stored-valid [] (omega arith) valid-nil in
+    record { held-valid = empty; proven-valid = empty; inside = beyond-false 0 n .1 (pow-pos n); table-valid = valid-empty n }
+
+pub fresh-config : (r : Roster) (own room : ℕ) (v : ViewRecord) → seated r own room ≡ true → validRecord (r .n) v ≡ true
+    → config r own room v fresh ≡ false
+fresh-config r own room v p q = is-configured r own room v fresh (record { seat = p; views = q; lent = fresh-lendable (r .n) })
+
+-- the numbers of a state stay within their types, from a fresh one on
+pub fresh-fits : (own : ℕ) (v : ViewRecord) → own < 256 → v .view .0 < 2 ^ 32 → Fits own v fresh
+fresh-fits own v p q =
+    record {
+      own-fits = p;
+      view-fits = q;
+      ballot-fits = lit< tt;
+      held-fits = each-padded limit none;
+      proven-fits = each-padded limit none;
+      certified-fits = lit< tt;
+      certificate-fits = lit< tt;
+    }
+
+pub keeps-fits : (r : Roster) (own room : ℕ) (v : ViewRecord) (s : State) (line : List ℕ) → Fits own v s
+    → Fits own v (step r own room v s line .state)
+keeps-fits r own room v s line f =
+    let x = received line in
+    let opened : (fast : ℕ) → Accepts r own room v s line → Fits own v (inBallot s (x .ballot .0) fast) = λ fast a.
+    record {
+      own-fits = f .own-fits;
+      view-fits = f .view-fits;
+      ballot-fits = ballot-fits line (a .framed);
+      held-fits = f .held-fits;
+      proven-fits = f .proven-fits;
+      certified-fits = f .certified-fits;
+      certificate-fits = f .certificate-fits;
+    } in
+    replies (λ o. Fits own v (o .state)) (λ _. f) (opened 0) (opened 1)
+    (λ a h k.
+    record {
+      own-fits = f .own-fits;
+      view-fits = f .view-fits;
+      ballot-fits = f .ballot-fits;
+      held-fits = each-padded limit (k .words (held-each f));
+      proven-fits = f .proven-fits;
+      certified-fits = f .certified-fits;
+      certificate-fits = f .certificate-fits;
+    })
+    (λ a p k.
+    record {
+      own-fits = f .own-fits;
+      view-fits = f .view-fits;
+      ballot-fits = f .ballot-fits;
+      held-fits = f .held-fits;
+      proven-fits = each-padded limit (k .words (held-each f));
+      certified-fits = f .ballot-fits;
+      certificate-fits = certificate-lt r own room v s (verifiedBy s x) (carried x) (a .configured);
+    })
+    (λ a p k.
+    record {
+      own-fits = f .own-fits;
+      view-fits = f .view-fits;
+      ballot-fits = f .ballot-fits;
+      held-fits = f .held-fits;
+      proven-fits = f .proven-fits;
+      certified-fits = f .certified-fits;
+      certificate-fits = f .certificate-fits;
+    })
+    f (stepped r own room v s line)

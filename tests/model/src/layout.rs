@@ -1,0 +1,131 @@
+//! The records that the library is lent and hands back, in the layout that
+//! it names. Everything goes by value.
+
+/// The number of sites and of those that may lie.
+#[repr(C)]
+#[derive(Clone, Copy, Debug, PartialEq, Eq)]
+pub struct Roster {
+    pub n: u8,
+    pub f: u8,
+}
+
+/// One history: the first `count` words.
+#[repr(C)]
+#[derive(Clone, PartialEq, Eq)]
+pub struct History {
+    pub count: u8,
+    pub words: [u64; 32],
+}
+
+/// A history a site: site i's are the words from 32 i on.
+#[repr(C)]
+#[derive(Clone, PartialEq, Eq)]
+pub struct Table {
+    pub counts: [u8; 16],
+    pub words: [u64; 512],
+}
+
+/// A learner's state.
+#[repr(C)]
+#[derive(Clone, PartialEq, Eq)]
+pub struct Learner {
+    pub entries: Table,
+    pub learned: History,
+}
+
+/// What a learner's step answers.
+#[repr(C)]
+#[derive(Clone, PartialEq, Eq)]
+pub struct LearnerOutcome {
+    pub answer: u8,
+    pub supporters: u8,
+    pub state: Learner,
+}
+
+/// The view-change record: view, suspicion mask, target view (0: none) and
+/// target mask.
+#[repr(C)]
+#[derive(Clone, Copy, Debug, PartialEq, Eq)]
+pub struct ViewRecord {
+    pub view: u32,
+    pub suspicions: u16,
+    pub target: u32,
+    pub changes: u16,
+}
+
+/// What a step of the view change answers.
+#[repr(C)]
+#[derive(Clone, Copy, Debug, PartialEq, Eq)]
+pub struct ViewChangeOutcome {
+    pub answer: u8,
+    pub sent: usize,
+    pub views: ViewRecord,
+}
+
+/// An acceptor's state; its view is the one of the view-change record.
+/// `certified` and `certificate` are the ballot and the mask of `proven`.
+#[repr(C)]
+#[derive(Clone, PartialEq, Eq)]
+pub struct Acceptor {
+    pub ballot: u32,
+    pub fast: u8,
+    pub signed: u8,
+    pub held: History,
+    pub proven: History,
+    pub certified: u32,
+    pub certificate: u16,
+    pub verified: Table,
+}
+
+/// What an acceptor's step answers.
+#[repr(C)]
+#[derive(Clone, PartialEq, Eq)]
+pub struct AcceptorOutcome {
+    pub answer: u8,
+    pub sent: usize,
+    pub state: Acceptor,
+}
+
+impl History {
+    /// No command.
+    pub fn empty() -> History {
+        History { count: 0, words: [0; 32] }
+    }
+}
+
+impl Table {
+    /// No command of any site.
+    pub fn empty() -> Table {
+        Table { counts: [0; 16], words: [0; 512] }
+    }
+}
+
+impl Learner {
+    /// A learner at its start.
+    pub fn fresh() -> Learner {
+        Learner { entries: Table::empty(), learned: History::empty() }
+    }
+}
+
+impl ViewRecord {
+    /// The record at its start.
+    pub fn fresh() -> ViewRecord {
+        ViewRecord { view: 0, suspicions: 0, target: 0, changes: 0 }
+    }
+}
+
+impl Acceptor {
+    /// An acceptor at its start.
+    pub fn fresh() -> Acceptor {
+        Acceptor {
+            ballot: 0,
+            fast: 0,
+            signed: 0,
+            held: History::empty(),
+            proven: History::empty(),
+            certified: 0,
+            certificate: 0,
+            verified: Table::empty(),
+        }
+    }
+}
