@@ -1,16 +1,17 @@
 -- The acceptor, as document 01, "Acceptor", words it: its refusals in their order, and what an accepted frame does.
-use mathlib.Core.Bool.{Bool, true, false, not, cond, _&&_, _||_}
-use mathlib.Core.List.{List, [], _∷_, _++_}
+use mathlib.Core.Bool.{Bool, false, not, cond, _&&_, _||_}
+use mathlib.Core.List.{List, [], _∷_}
 use Prim.Native.Nat.{ℕ}
 use lib.Dec.{leb, ltb, eqb}
 use lib.ListN.{length}
 use Rattle.roster.specs.declared.Roster.{Roster}
+use Rattle.roster.specs.declared.Ballot.{Ballot}
 use Rattle.roster.specs.Roster.{quorum, leaderOf}
 use Rattle.roster.specs.Mask.{reaches, beyond}
 use Rattle.roster.specs.Sites.{maskTo}
-use Rattle.command.specs.Command.{proposer, allValid}
+use Rattle.command.specs.Command.{wrong, allBy}
 use Rattle.history.specs.History.{repeated, canonical, equal, improper, extends}
-use Rattle.history.specs.Words.{limit, commands, stored, padded, validStored}
+use Rattle.history.specs.Words.{limit, commands, stored, validStored}
 use Rattle.merge.specs.Merge.{appended}
 use Rattle.merge.specs.Appending.{reuses, nothingNew}
 use Rattle.table.specs.declared.Table.{Table}
@@ -19,10 +20,11 @@ use Rattle.refusal.specs.declared.Refusal.{Refusal}
 use Rattle.refusal.specs.declared.Refusal.the-variants.{Config, Form, Sender, Stale, Command, History, Behind, Reused, Contradiction, Nothing, Full}
 use Rattle.refusal.specs.Rules.{Rule, _gives_, judged}
 use Rattle.frame.specs.declared.Frame.{Frame}
-use Rattle.frame.specs.Layout.{capacity, first}
+use Rattle.frame.specs.Layout.{first}
 use Rattle.frame.specs.Format.{readingOf, malformed}
 use Rattle.site.specs.declared.ViewRecord.{ViewRecord}
-use Rattle.site.specs.Site.{seated, validRecord}
+use Rattle.site.specs.Site.{seated, validRecord, isSet}
+use Rattle.site.specs.Message.{message}
 use Rattle.site.specs.Reply.{silent, sends, Reply, refuse, accept, lengthSent, buffer}
 use Rattle.acceptor.specs.declared.State.{State}
 use Rattle.acceptor.specs.declared.Outcome.{Outcome}
@@ -72,10 +74,6 @@ heldOf s = commands (s .held)
 abbrev pub provenOf : State → List ℕ
 provenOf s = commands (s .proven)
 
--- a flag that the host lends is a number, 0 or not 0
-abbrev pub isSet : ℕ → Bool
-isSet n = not (eqb n 0)
-
 -- ---- the refusals, each by the kind of the frame
 
 -- CONFIG: roster, own number and buffer; "lent state with a count over 32, a wrong command, a repeated proposer and serial in one list, a stored
@@ -121,13 +119,6 @@ stale P2A v s m = not (sameView v m && (sameBallot s m && not (isSet (s .fast)))
 stale VERIFY v s m = not (sameView v m && sameBallot s m)
 
 -- COMMAND: "a command's fields are wrong, or in PROPOSE its proposer isn't the sender"
-unfoldable pub wrong : List ℕ → Bool
-wrong h = not (allValid h)
-
-unfoldable pub allBy : ℕ → List ℕ → Bool
-allBy p [] = true
-allBy p (c ∷ h) = eqb (proposer c) p && allBy p h
-
 abbrev pub wrongIn : Kind → Frame → Bool
 wrongIn P1A m = false
 wrongIn FAST m = false
@@ -191,32 +182,17 @@ full VERIFY s m = false
 
 -- ---- the frames that an acceptor sends
 
--- a frame from `own` with two lists of commands
-abbrev pub message : ℕ → ℕ → ℕ → ℕ → ℕ → ℕ → List ℕ → List ℕ → Frame
-message kind own view ballot proven mask h k =
-    record {
-      kind = kind;
-      sender = own;
-      view = record { 0 = view };
-      ballot = record { 0 = ballot };
-      proven = record { 0 = proven };
-      mask = mask;
-      n = length h;
-      m = length k;
-      words = padded capacity (h ++ k);
-    }
-
 -- P1B, with the proven history, its ballot and mask, and the held one
-abbrev pub p1b : ℕ → State → ℕ → Frame
-p1b own s ballot = message 3 own 0 ballot (s .certified .0) (s .certificate) (provenOf s) (heldOf s)
+abbrev pub p1b : ℕ → State → Ballot → Frame
+p1b own s ballot = message 3 own (record { 0 = 0 }) ballot (s .certified) (s .certificate) (provenOf s) (heldOf s)
 
 -- VERIFY of h in the present view and ballot
 abbrev pub verify : ℕ → ViewRecord → State → List ℕ → Frame
-verify own v s h = message 6 own (v .view .0) (s .ballot .0) 0 0 h []
+verify own v s h = message 6 own (v .view) (s .ballot) (record { 0 = 0 }) 0 h []
 
 -- P2B of h in the present ballot, with the mask of its certificate
 abbrev pub p2b : ℕ → State → ℕ → List ℕ → Frame
-p2b own s mask h = message 7 own 0 (s .ballot .0) 0 mask h []
+p2b own s mask h = message 7 own (record { 0 = 0 }) (s .ballot) (record { 0 = 0 }) mask h []
 
 -- ---- an accepted frame
 
@@ -303,7 +279,7 @@ store r own s t h =
 
 -- "Stored if it extends the site's entry; accepted without effect if the entry is longer and extends it."
 abbrev pub accepted : Kind → Roster → ℕ → ViewRecord → State → Frame → Reply State
-accepted P1A r own v s m = accept (inBallot s (m .ballot .0) 0) (sends (p1b own s (m .ballot .0)))
+accepted P1A r own v s m = accept (inBallot s (m .ballot .0) 0) (sends (p1b own s (m .ballot)))
 accepted FAST r own v s m = accept (inBallot s (m .ballot .0) 1) silent
 accepted PROPOSE r own v s m = sign own v s (canonical (appended (heldOf s) (carried m)))
 accepted P2A r own v s m = sign own v s (carried m)

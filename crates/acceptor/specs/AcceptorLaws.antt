@@ -2,29 +2,28 @@
 use mathlib.Core.Path.{_≡_, refl, sym, _∙_, subst}
 use mathlib.Core.Logic.{_⊎_, inl, inr}
 use mathlib.Core.Bool.{Bool, true, false}
-use mathlib.Core.List.{List, [], _++_, append-nil}
+use mathlib.Core.List.{List}
 use Prim.Native.Nat.{ℕ, _≤_}
 use native.Mathlib.Omega.{arith}
-use borrow.Author.Tests.{not-false}
-use lib.ListN.{length, take, length-take}
+use lib.ListN.{length, length-take}
 use Rattle.roster.specs.declared.Roster.{Roster}
 use Rattle.roster.specs.Roster.{quorum}
 use Rattle.roster.specs.Mask.{reaches}
 use Rattle.roster.specs.SitesLaws.{and-left, and-right}
 use Rattle.history.specs.History.{Extends, extends, canonical}
 use Rattle.history.specs.ExtensionLaws.{extends-refl, extends-sound}
-use Rattle.history.specs.Words.{limit, padded}
-use Rattle.history.specs.WordsLaws.{commands-stored, take-padded}
+use Rattle.history.specs.Words.{limit}
+use Rattle.history.specs.WordsLaws.{commands-stored}
 use Rattle.merge.specs.Merge.{appended}
 use Rattle.refusal.specs.declared.Refusal.{Refusal}
 use Rattle.refusal.specs.JudgedLaws.{GivenFirst, NoneHolds, passed, pass, Judgement, refused, accepts, judgement, rising}
 use Rattle.frame.specs.declared.Frame.{Frame}
-use Rattle.frame.specs.Layout.{capacity, first}
-use Rattle.frame.specs.Format.{readingOf, malformed}
-use Rattle.frame.specs.FormatLaws.{found-n}
+use Rattle.frame.specs.Layout.{first}
+use Rattle.frame.specs.FormatLaws.{read-n}
 use Rattle.site.specs.declared.ViewRecord.{ViewRecord}
 use Rattle.site.specs.Reply.{silent, sends, Reply, refuse, accept}
 use Rattle.site.specs.ReplyLaws.{silent-sends, sends-same}
+use Rattle.site.specs.MessageLaws.{first-is}
 use Rattle.acceptor.specs.declared.State.{State}
 use Rattle.acceptor.specs.Acceptor.{
   Kind,
@@ -125,7 +124,7 @@ rules-rise r own room v s line = refl
 
 -- what an accepted frame does: a ballot is opened, a history is signed, a VERIFY proves its history, is stored only, or has no effect
 pub data Effect (r : Roster) (own : ℕ) (v : ViewRecord) (s : State) (m : Frame) : Reply State → Type 0 where
-  opens-classic : Effect r own v s m (accept (inBallot s (m .ballot .0) 0) (sends (p1b own s (m .ballot .0))))
+  opens-classic : Effect r own v s m (accept (inBallot s (m .ballot .0) 0) (sends (p1b own s (m .ballot))))
   opens-fast : Effect r own v s m (accept (inBallot s (m .ballot .0) 1) silent)
   signs : (h : List ℕ) → Effect r own v s m (accept (signing own s h) (sends (verify own v s h)))
   proves-it : proves r s (verifiedBy s m) (carried m) ≡ true
@@ -159,10 +158,9 @@ proves-extends r s m e =
     extends-sound h (provenOf s)
     (and-left (extends h (provenOf s)) _ (and-right (reaches (certificateOf r (verifiedBy s m) h) (quorum r)) _ e))
 
--- the history of a frame that FORM lets pass has at most 32 commands, so it is stored whole
-pub carried-short : (line : List ℕ) → form line ≡ false → length (carried (received line)) ≤ limit
-unfolding malformed
-carried-short line e = rw length-take (omega (arith, found-n line taken (not-false (readingOf line taken .found) e)))
+-- a line carries at most 32 commands, so its history is stored whole
+pub carried-short : (line : List ℕ) → length (carried (received line)) ≤ limit
+carried-short line = rw length-take (omega (arith, read-n line taken))
 
 effect-grows : {r : Roster} {own : ℕ} {v : ViewRecord} {s : State} {m : Frame} {o : Reply State} → length (carried m) ≤ limit → Effect r own v s m o
     → Extends (provenOf (o .state)) (provenOf s)
@@ -180,7 +178,7 @@ proven-grows r own room v s line = go (stepped r own room v s line)
   where
     go : Stepped r own room v s line → Extends (provenOf (step r own room v s line .state)) (provenOf s)
     go (refuses e g o) = rw o (extends-refl (provenOf s))
-    go (accepting a) = rw (a .outcome) (effect-grows (carried-short line (a .framed)) (effect (kindIn line) r own v s (received line)))
+    go (accepting a) = rw (a .outcome) (effect-grows (carried-short line) (effect (kindIn line) r own v s (received line)))
 
 -- ---- the frames that are sent
 
@@ -189,10 +187,6 @@ pub record Message (own : ℕ) (s : State) (m : Frame) : Type 0 where
   pub kind : (m .kind ≡ 3) ⊎ ((m .kind ≡ 6) ⊎ (m .kind ≡ 7))
   pub sender : m .sender ≡ own
   pub vote : m .kind ≡ 7 → first m ≡ provenOf s
-
--- the first list of a frame with one list
-first-is : (h : List ℕ) → length h ≤ capacity → take (length h) (padded capacity (h ++ [])) ≡ h
-first-is h l = rw (append-nil h) (take-padded capacity h l)
 
 effect-sends : {r : Roster} {own : ℕ} {v : ViewRecord} {s : State} {m : Frame} {o : Reply State} → length (carried m) ≤ limit → Effect r own v s m o
     → {x : Frame} → o .sending ≡ sends x → Message own (o .state) x
@@ -219,4 +213,4 @@ sends-message r own room v s line {m} h = go (stepped r own room v s line)
     go : Stepped r own room v s line → Message own (step r own room v s line .state) m
     go (refuses e g o) = absurd (silent-sends (rw o at h))
     go (accepting a) =
-        rw (a .outcome) (effect-sends (carried-short line (a .framed)) (effect (kindIn line) r own v s (received line)) (rw (a .outcome) at h))
+        rw (a .outcome) (effect-sends (carried-short line) (effect (kindIn line) r own v s (received line)) (rw (a .outcome) at h))

@@ -1,6 +1,6 @@
 -- What the contracts of `acceptor` cite, and the laws of it.
 pub mod Acceptor
 pub mod Verdict
-pub mod VerdictLaws
 pub mod AcceptorLaws
+pub mod VerdictLaws
 pub mod LineLaws

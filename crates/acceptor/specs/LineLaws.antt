@@ -1,43 +1,48 @@
 -- Each frame that an acceptor sends has a line, which is what it leaves in the buffer; and no step leaves a state that CONFIG refuses.
 use mathlib.Core.Path.{_≡_, refl, sym, _∙_, subst}
-use mathlib.Core.Bool.{Bool, true, false, not, cond, _&&_, false≢true}
-use mathlib.Core.List.{List, [], _∷_, _++_}
-use Prim.Native.Nat.{ℕ, zero, suc, _^_, _≤_, _<_}
+use mathlib.Core.Bool.{Bool, true, false, not, _&&_}
+use mathlib.Core.List.{List, []}
+use Prim.Native.Nat.{ℕ, _^_, _≤_, _<_}
 use native.Mathlib.Nat.{lt-of-lt-of-le}
 use native.Mathlib.Omega.{arith}
-use borrow.Author.Tests.{le-leb, leb-false, ltb-true, ltb-false, lt-ltb, not-true, not-false}
+use borrow.Author.Tests.{le-leb, leb-false, ltb-true, ltb-false, not-true, not-false}
 use lib.Dec.{ltb, lit<}
-use lib.ListN.{length, take, drop, length-append}
+use lib.ListN.{length}
 use lib.Pow.{pow-mono, pow-pos}
 use Rattle.roster.specs.declared.Roster.{Roster}
+use Rattle.roster.specs.declared.View.{View}
+use Rattle.roster.specs.declared.Ballot.{Ballot}
 use Rattle.roster.specs.RosterLaws.{valid-figures}
 use Rattle.roster.specs.Mask.{beyond}
 use Rattle.roster.specs.MaskLaws.{mask-lt, mask-inside, beyond-false}
 use Rattle.roster.specs.SitesLaws.{and-left, and-right}
-use Rattle.command.specs.Command.{allValid}
-use Rattle.history.specs.History.{Equivalent, same, swap, keep, trans, present, canonical, extends, validHistory, improper}
+use Rattle.command.specs.Command.{wrong}
+use Rattle.command.specs.CommandLaws.{right-commands}
+use Rattle.history.specs.History.{canonical, extends, validHistory, improper}
 use Rattle.history.specs.TakesLaws.{equivalent-sym}
 use Rattle.history.specs.CanonicalLaws.{canonical-equivalent, canonical-length, canonical-is-canonical}
 use Rattle.history.specs.OrderLaws.{or-left, repeated-along, all-valid-along}
 use Rattle.history.specs.ValidLaws.{valid-parts, parts-valid, not-improper, valid-nil}
-use Rattle.history.specs.Words.{limit, padded, validStored}
-use Rattle.history.specs.WordsLaws.{length-padded, stored-valid, valid-stored-history, valid-stored-length}
+use Rattle.history.specs.Words.{limit, validStored}
+use Rattle.history.specs.FitLaws.{EachFits, none, each-take, each-padded, each-along}
+use Rattle.history.specs.WordsLaws.{stored-valid, valid-stored-history, valid-stored-length}
 use Rattle.merge.specs.Merge.{appended}
 use Rattle.merge.specs.MergeLaws.{appended-all-valid, appended-distinct}
+use Rattle.merge.specs.AppendingLaws.{each-appended}
 use Rattle.table.specs.declared.Table.{Table}
 use Rattle.table.specs.Table.{validTable}
 use Rattle.table.specs.ValidLaws.{valid-stored, valid-empty}
 use Rattle.refusal.specs.declared.Refusal.{Refusal}
 use Rattle.frame.specs.declared.Frame.{Frame}
 use Rattle.frame.specs.Hex.{allFit}
-use Rattle.frame.specs.Layout.{capacity, widths}
 use Rattle.frame.specs.Kinds.{uses, isKind, unusedZero, zeroUnless}
-use Rattle.frame.specs.Format.{readingOf, malformed, proper, allZero, writable}
-use Rattle.frame.specs.Format as format
-use Rattle.frame.specs.FormatLaws.{Written, writable-is, is-writable, found-writable}
+use Rattle.frame.specs.Format.{readingOf, malformed, proper, writable}
+use Rattle.frame.specs.FormatLaws.{Written, writable-is, found-writable}
 use Rattle.site.specs.declared.ViewRecord.{ViewRecord}
 use Rattle.site.specs.Site.{seated, validRecord}
 use Rattle.site.specs.SiteLaws.{seated-is}
+use Rattle.site.specs.Message.{message}
+use Rattle.site.specs.MessageLaws.{read-first-fits, message-writable}
 use Rattle.site.specs.Reply.{silent, sends, Reply, refuse, accept}
 use Rattle.site.specs.ReplyLaws.{silent-sends, sends-same, Sent, sent-line}
 use Rattle.acceptor.specs.declared.State.{State}
@@ -58,12 +63,10 @@ use Rattle.acceptor.specs.Acceptor.{
   config,
   form,
   sender,
-  wrong,
   wrongIn,
   improperIn,
   full,
   entryOf,
-  message,
   p1b,
   verify,
   p2b,
@@ -82,109 +85,21 @@ use Rattle.acceptor.specs.Acceptor.{
 }
 use Rattle.acceptor.specs.AcceptorLaws.{Accepts, Stepped, refuses, accepting, stepped, carried-short}
 
--- ---- words of eight bytes
-
--- each word of a list fits eight bytes
-pub data EachFits : List ℕ → Type 0 where
-  none : EachFits []
-  more : {c : ℕ} {l : List ℕ} → c < 2 ^ 64 → EachFits l → EachFits (c ∷ l)
-
--- so it is with a part of it, with two lists of such words, and with zeros after them
-each-take : (n : ℕ) {l : List ℕ} → EachFits l → EachFits (take n l)
-each-take zero w = none
-each-take (suc n) none = none
-each-take (suc n) (more p w) = more p (each-take n w)
-
-each-append : {g h : List ℕ} → EachFits g → EachFits h → EachFits (g ++ h)
-each-append none w = w
-each-append (more p v) w = more p (each-append v w)
-
-each-padded : (n : ℕ) {l : List ℕ} → EachFits l → EachFits (padded n l)
-unfolding padded
-each-padded zero w = none
-each-padded (suc n) none = more (lit< tt) (each-padded n none)
-each-padded (suc n) (more p w) = more p (each-padded n w)
-
--- with the same words in another order, and with more appended
-each-along : {g h : List ℕ} → Equivalent g h → EachFits g → EachFits h
-each-along same w = w
-each-along (swap p) (more a (more b w)) = more b (more a w)
-each-along (keep e) (more a w) = more a (each-along e w)
-each-along (trans e f) w = each-along f (each-along e w)
-
-each-appended : {g h : List ℕ} → EachFits g → EachFits h → EachFits (appended g h)
-unfolding appended
-each-appended v none = v
-each-appended {g} v (more {c = c} p w) = each-appended (next (present c g)) w
-  where
-    next : (b : Bool) → EachFits (cond b g (g ++ c ∷ []))
-    next true = v
-    next false = each-append v (more p none)
-
--- as the format has it
-each-fit : (n : ℕ) {l : List ℕ} → EachFits l → length l ≡ n → allFit (format.commands n) l ≡ true
-unfolding allFit
-each-fit zero none e = refl
-each-fit zero (more p w) e = absurd (omega (arith, e))
-each-fit (suc n) none e = absurd (omega (arith, e))
-each-fit (suc n) (more {c = c} p w) e = rw (lt-ltb c (2 ^ 64) p) (each-fit n w (omega (arith, e)))
-
-fit-each : (n : ℕ) (l : List ℕ) → allFit (format.commands n) l ≡ true → EachFits l
-unfolding allFit
-fit-each zero [] e = none
-fit-each zero (c ∷ l) e = absurd (false≢true e)
-fit-each (suc n) [] e = absurd (false≢true e)
-fit-each (suc n) (c ∷ l) e = more (ltb-true c (2 ^ 64) (and-left (ltb c (2 ^ 64)) _ e)) (fit-each n l (and-right (ltb c (2 ^ 64)) _ e))
-
--- ---- which messages have a line
-
--- after a list that is padded stand zeros
-padded-clear : (n : ℕ) (l : List ℕ) → allZero (drop (length l) (padded n l)) ≡ true
-unfolding padded allZero
-padded-clear zero [] = refl
-padded-clear zero (c ∷ l) = refl
-padded-clear (suc n) [] = padded-clear n []
-padded-clear (suc n) (c ∷ l) = padded-clear n l
-
--- a header of numbers that fit
-header-fits : (kind own view ballot proven mask n m : ℕ) → kind < 256 → own < 256 → view < 2 ^ 32 → ballot < 2 ^ 32 → proven < 2 ^ 32 → mask < 2 ^ 16
-    → n < 256 → m < 256 → allFit widths (kind ∷ own ∷ view ∷ ballot ∷ proven ∷ mask ∷ n ∷ m ∷ []) ≡ true
-unfolding allFit
-header-fits kind own view ballot proven mask n m a b c d e f g h =
-    rw (
-      lt-ltb kind 256 a,
-      lt-ltb own 256 b,
-      lt-ltb view (2 ^ 32) c,
-      lt-ltb ballot (2 ^ 32) d,
-      lt-ltb proven (2 ^ 32) e,
-      lt-ltb mask (2 ^ 16) f,
-      lt-ltb n 256 g,
-      lt-ltb m 256 h,
-    )
-
--- a proper message of such numbers, with two lists of at most 32 words
-module _ (kind own view ballot proven mask : ℕ) {h k : List ℕ} (p : length h ≤ limit) (q : length k ≤ limit) (v : EachFits h) (w : EachFits k) where
-  message-writable : kind < 256 → own < 256 → view < 2 ^ 32 → ballot < 2 ^ 32 → proven < 2 ^ 32 → mask < 2 ^ 16
-      → proper (message kind own view ballot proven mask h k) ≡ true → writable (message kind own view ballot proven mask h k) ≡ true
-  message-writable a b c d e f good =
-      is-writable (message kind own view ballot proven mask h k)
-      (record {
-        values-proper = good;
-        clear = subst (λ (n : ℕ). allZero (drop n (padded capacity (h ++ k))) ≡ true) (length-append h k) (padded-clear capacity (h ++ k));
-        header-fits = header-fits kind own view ballot proven mask (length h) (length k) a b c d e f (omega arith) (omega arith);
-        words-fit = each-fit capacity (each-padded capacity (each-append v w)) (length-padded capacity (h ++ k));
-      })
+-- ---- which frames FORM allows
 
 -- P1B, VERIFY and P2B leave 0 what their kind doesn't use
-p1b-proper : (own ballot proven mask : ℕ) (h k : List ℕ) → length h ≤ limit → length k ≤ limit → proper (message 3 own 0 ballot proven mask h k) ≡ true
+p1b-proper : (own : ℕ) (ballot proven : Ballot) (mask : ℕ) (h k : List ℕ) → length h ≤ limit → length k ≤ limit
+    → proper (message 3 own (record { 0 = 0 }) ballot proven mask h k) ≡ true
 unfolding proper isKind uses unusedZero zeroUnless
 p1b-proper own ballot proven mask h k p q = rw (le-leb (length h) limit p, le-leb (length k) limit q)
 
-verify-proper : (own view ballot : ℕ) (h : List ℕ) → length h ≤ limit → proper (message 6 own view ballot 0 0 h []) ≡ true
+verify-proper : (own : ℕ) (view : View) (ballot : Ballot) (h : List ℕ) → length h ≤ limit
+    → proper (message 6 own view ballot (record { 0 = 0 }) 0 h []) ≡ true
 unfolding proper isKind uses unusedZero zeroUnless
 verify-proper own view ballot h p = rw (le-leb (length h) limit p)
 
-p2b-proper : (own ballot mask : ℕ) (h : List ℕ) → length h ≤ limit → proper (message 7 own 0 ballot 0 mask h []) ≡ true
+p2b-proper : (own : ℕ) (ballot : Ballot) (mask : ℕ) (h : List ℕ) → length h ≤ limit
+    → proper (message 7 own (record { 0 = 0 }) ballot (record { 0 = 0 }) mask h []) ≡ true
 unfolding proper isKind uses unusedZero zeroUnless
 p2b-proper own ballot mask h p = rw (le-leb (length h) limit p)
 
@@ -236,7 +151,7 @@ module _ (line : List ℕ) (e : form line ≡ false) where
 
   -- its words and its ballot fit
   carried-fits : EachFits (carried (received line))
-  carried-fits = each-take (received line .n) (fit-each capacity (received line .words) (written .words-fit))
+  carried-fits = read-first-fits line taken e
 
   ballot-fits : received line .ballot .0 < 2 ^ 32
   unfolding allFit
@@ -253,16 +168,12 @@ record Checked (s : State) (h : List ℕ) : Type 0 where
   valid : validHistory h ≡ true
   words : EachFits (heldOf s) → EachFits h
 
-right-commands : (h : List ℕ) → wrong h ≡ false → allValid h ≡ true
-unfolding wrong
-right-commands h e = not-false (allValid h) e
-
 -- that of a P2A or a VERIFY
 carried-checked : (s : State) (line : List ℕ) → form line ≡ false → wrong (carried (received line)) ≡ false → improper (carried (received line)) ≡ false
     → Checked s (carried (received line))
 carried-checked s line e p q =
     let h = carried (received line) in
-    record { short = carried-short line e; valid = parts-valid (not-improper h (right-commands h p) q); words = λ w. carried-fits line e }
+    record { short = carried-short line; valid = parts-valid (not-improper h (right-commands h p) q); words = λ w. carried-fits line e }
 
 -- the held history with the commands of a PROPOSE
 appended-checked : (s : State) (line : List ℕ) → form line ≡ false → validStored (s .held) ≡ true → wrong (carried (received line)) ≡ false
@@ -288,7 +199,7 @@ appended-checked s line e v p l =
 -- what holds of a refusal, and of each reply to an accepted frame, holds of what a step replies
 module _ {r : Roster} {own room : ℕ} {v : ViewRecord} {s : State} {line : List ℕ} (P : Reply State → Type 0)
     (on-refusal : (e : Refusal) → P (refuse s e))
-    (on-classic : Accepts r own room v s line → P (accept (inBallot s (received line .ballot .0) 0) (sends (p1b own s (received line .ballot .0)))))
+    (on-classic : Accepts r own room v s line → P (accept (inBallot s (received line .ballot .0) 0) (sends (p1b own s (received line .ballot)))))
     (on-fast : Accepts r own room v s line → P (accept (inBallot s (received line .ballot .0) 1) silent))
     (on-sign : Accepts r own room v s line → (h : List ℕ) → Checked s h → P (accept (signing own s h) (sends (verify own v s h))))
     (on-prove : Accepts r own room v s line → received line .sender < r .n → Checked s (carried (received line))
@@ -367,22 +278,22 @@ module _ {own : ℕ} {v : ViewRecord} {s : State} (f : Fits own v s) where
   proven-each = each-take (s .proven .count) (f .proven-fits)
 
   -- P1B, VERIFY and P2B of such a state
-  p1b-writable : (n ballot : ℕ) → Lendable n s → ballot < 2 ^ 32 → writable (p1b own s ballot) ≡ true
+  p1b-writable : (n : ℕ) (ballot : Ballot) → Lendable n s → ballot .0 < 2 ^ 32 → writable (p1b own s ballot) ≡ true
   p1b-writable n ballot c l =
       let p = valid-stored-length (s .proven) (c .proven-valid) in
       let q = valid-stored-length (s .held) (c .held-valid) in
-      message-writable 3 own 0 ballot (s .certified .0) (s .certificate) p q proven-each held-each (lit< tt) (f .own-fits) (lit< tt) l
-      (f .certified-fits) (f .certificate-fits) (p1b-proper own ballot (s .certified .0) (s .certificate) (provenOf s) (heldOf s) p q)
+      message-writable 3 own (record { 0 = 0 }) ballot (s .certified) (s .certificate) p q proven-each held-each (lit< tt) (f .own-fits) (lit< tt) l
+      (f .certified-fits) (f .certificate-fits) (p1b-proper own ballot (s .certified) (s .certificate) (provenOf s) (heldOf s) p q)
 
   verify-writable : (h : List ℕ) → Checked s h → writable (verify own v s h) ≡ true
   verify-writable h c =
-      message-writable 6 own (v .view .0) (s .ballot .0) 0 0 (c .short) (omega arith) (c .words held-each) none (lit< tt) (f .own-fits)
-      (f .view-fits) (f .ballot-fits) (lit< tt) (lit< tt) (verify-proper own (v .view .0) (s .ballot .0) h (c .short))
+      message-writable 6 own (v .view) (s .ballot) (record { 0 = 0 }) 0 (c .short) (omega arith) (c .words held-each) none (lit< tt) (f .own-fits)
+      (f .view-fits) (f .ballot-fits) (lit< tt) (lit< tt) (verify-proper own (v .view) (s .ballot) h (c .short))
 
   p2b-writable : (h : List ℕ) (mask : ℕ) → Checked s h → mask < 2 ^ 16 → writable (p2b own s mask h) ≡ true
   p2b-writable h mask c l =
-      message-writable 7 own 0 (s .ballot .0) 0 mask (c .short) (omega arith) (c .words held-each) none (lit< tt) (f .own-fits) (lit< tt)
-      (f .ballot-fits) (lit< tt) l (p2b-proper own (s .ballot .0) mask h (c .short))
+      message-writable 7 own (record { 0 = 0 }) (s .ballot) (record { 0 = 0 }) mask (c .short) (omega arith) (c .words held-each) none (lit< tt) (f .own-fits) (lit< tt)
+      (f .ballot-fits) (lit< tt) l (p2b-proper own (s .ballot) mask h (c .short))
 
   -- each frame that is sent has a line
   pub sends-writable : (r : Roster) (room : ℕ) (line : List ℕ) {m : Frame} → step r own room v s line .sending ≡ sends m → writable m ≡ true
@@ -390,7 +301,7 @@ module _ {own : ℕ} {v : ViewRecord} {s : State} (f : Fits own v s) where
       let x = received line in
       let found : (y : Frame) → sends y ≡ sends m → writable y ≡ true → writable m ≡ true = λ y g w. subst (λ z. writable z ≡ true) (sends-same g) w in
       replies (λ o. o .sending ≡ sends m → writable m ≡ true) (λ _ g. absurd (silent-sends g))
-      (λ a g. found _ g (p1b-writable (r .n) (x .ballot .0) (configured-is r own room v s (a .configured) .lent) (ballot-fits line (a .framed))))
+      (λ a g. found _ g (p1b-writable (r .n) (x .ballot) (configured-is r own room v s (a .configured) .lent) (ballot-fits line (a .framed))))
       (λ a g. absurd (silent-sends g)) (λ a h c g. found _ g (verify-writable h c))
       (λ a p c g. found _ g (p2b-writable (carried x) _ c (certificate-lt r own room v s (verifiedBy s x) (carried x) (a .configured))))
       (λ a p c g. absurd (silent-sends g)) (λ g. absurd (silent-sends g)) (stepped r own room v s line) e

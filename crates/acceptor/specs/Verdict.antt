@@ -11,6 +11,7 @@ use Rattle.roster.specs.declared.Ballot.{Ballot}
 use Rattle.roster.specs.Roster.{quorum, leaderOf}
 use Rattle.roster.specs.Mask.{reaches}
 use Rattle.roster.specs.Sites.{maskTo}
+use Rattle.command.specs.Command.{wrong, allBy}
 use Rattle.history.specs.declared.History.{History}
 use Rattle.history.specs.History.{repeated, canonical, equal, improper, extends}
 use Rattle.history.specs.Words.{limit, commands, stored}
@@ -25,12 +26,14 @@ use Rattle.refusal.specs.declared.Answer.the-variants.{Accepted, Refused}
 use Rattle.refusal.specs.Rules.{Rule, _gives_, judged}
 use Rattle.frame.specs.declared.Frame.{Frame}
 use Rattle.site.specs.declared.ViewRecord.{ViewRecord}
+use Rattle.site.specs.Site.{isSet}
+use Rattle.site.specs.Message.{message}
 use Rattle.site.specs.Reply.{Reply, sendsIf}
 use Rattle.acceptor.specs.declared.State.{State}
 use Rattle.acceptor.specs.declared.Marks.{Marks}
 use Rattle.acceptor.specs.declared.Verdict.{Verdict}
 use Rattle.acceptor.specs.Acceptor as acceptor
-use Rattle.acceptor.specs.Acceptor.{isSet, wrong, allBy, carried, received, form, message}
+use Rattle.acceptor.specs.Acceptor.{carried, received, form}
 
 -- ---- the parts of a state
 
@@ -252,10 +255,10 @@ onLine r own room v k held proven words counts line =
 
 -- the frame that it sends: P1B, VERIFY or P2B
 abbrev pub report : ℕ → Marks → History → History → Frame
-report own k held proven = message 3 own 0 (k .ballot .0) (k .certified .0) (k .certificate) (commands proven) (commands held)
+report own k held proven = message 3 own (record { 0 = 0 }) (k .ballot) (k .certified) (k .certificate) (commands proven) (commands held)
 
 abbrev pub notice : ℕ → ℕ → View → Ballot → ℕ → History → Frame
-notice kind own view ballot mask h = message kind own (view .0) (ballot .0) 0 mask (commands h) []
+notice kind own view ballot mask h = message kind own view ballot (record { 0 = 0 }) mask (commands h) []
 
 abbrev pub frameOf : ℕ → View → Verdict → History → History → Frame
 frameOf own view d held proven =

@@ -1,15 +1,14 @@
 -- What a verdict does is what the definitions say of the line.
 use mathlib.Core.Path.{_≡_, refl, ap, _∙_}
-use mathlib.Core.Bool.{Bool, true, false, cond, _&&_, Bool·not-not}
+use mathlib.Core.Bool.{Bool, true, false, cond, Bool·not-not}
 use mathlib.Core.List.{List, [], _∷_}
 use Prim.Native.Nat.{ℕ, _≤_, _<_}
 use native.Mathlib.Decide.{ℕ-discrete}
 use native.Mathlib.Omega.{arith}
 use borrow.Author.Tests.{eq-eqb, ne-eqb, not-false, ltb-false}
 use lib.Dec.{ltb, eqb}
-use lib.ListN.{length, length-take}
+use lib.ListN.{length}
 use Rattle.roster.specs.declared.Roster.{Roster}
-use Rattle.roster.specs.Mask.{bit}
 use Rattle.roster.specs.SitesLaws.{mask-cong, and-left}
 use Rattle.roster.specs.RosterLaws.{valid-figures}
 use Rattle.history.specs.History.{canonical, extends}
@@ -19,13 +18,10 @@ use Rattle.merge.specs.Merge.{appended}
 use Rattle.table.specs.declared.Table.{Table}
 use Rattle.table.specs.Table.{storedAt, rowOf}
 use Rattle.table.specs.TableLaws.{Sized, row-stored, row-stored-other}
-use Rattle.refusal.specs.declared.Refusal.{Refusal}
 use Rattle.refusal.specs.declared.Refusal.the-variants.{Config, Form, Full}
 use Rattle.refusal.specs.Rules.{Rule, _gives_, judged}
-use Rattle.refusal.specs.RulesLaws.{judged-map, judged-later, judged-none}
+use Rattle.refusal.specs.RulesLaws.{judged-map, judged-later, judged-passed, judged-none}
 use Rattle.frame.specs.declared.Frame.{Frame}
-use Rattle.frame.specs.Format.{isLine, frameOf, readingOf, nothing}
-use Rattle.frame.specs.FormatLaws.{frame-is-writable, writable-n}
 use Rattle.site.specs.declared.ViewRecord.{ViewRecord}
 use Rattle.site.specs.Site.{seated}
 use Rattle.site.specs.SiteLaws.{seated-is}
@@ -35,21 +31,9 @@ use Rattle.acceptor.specs.declared.Verdict.{Verdict}
 use Rattle.acceptor.specs.Acceptor as acceptor
 use Rattle.acceptor.specs.Acceptor.{P1A, FAST, PROPOSE, P2A, VERIFY, kindOf, received, form, carried, heldOf, provenOf, notLeader, sameView, sameBallot, behindOf, entryOf, sign, matches, certificateOf, proves, p2b, storing, store, heard, accepted, frameRules, step, config}
 use Rattle.acceptor.specs.Verdict.{marksOf, against, putting, signing, proving, opening, outsider, openingRules, onOpening, unionRules, commandRules, proposalRules, orderRules, orderedRules, onOrdered, onCarried, entryRules, verifyRules, lineRules, fitting, onUnion, onGrowth, onCommands, onProposal, lags, onOrder, agrees, agreeing, convinces, onStore, onEntry, onVerify, onFrame, onLine, settled}
+use Rattle.acceptor.specs.AcceptorLaws.{carried-short}
 
 -- ---- sizes
-
--- a line carries at most 32 commands
-read-short : (l : List ℕ) (kinds : ℕ) → readingOf l kinds .frame .n ≤ 32
-unfolding readingOf
-read-short l kinds = go (isLine l) refl (bit kinds (frameOf l .kind))
-  where
-    go : (b : Bool) → isLine l ≡ b → (d : Bool) → (cond (b && d) (record { found = true; frame = frameOf l }) nothing) .frame .n ≤ 32
-    go true e true = writable-n (frameOf l) (frame-is-writable l e)
-    go true e false = omega arith
-    go false e d = omega arith
-
-pub carried-short : (l : List ℕ) → length (carried (received l)) ≤ 32
-carried-short l = rw length-take (omega (arith, read-short l 118))
 
 -- a roster that CONFIG lets pass has at most 16 sites
 pub few-sites : (r : Roster) (own room : ℕ) (v : ViewRecord) (s : State) → config r own room v s ≡ false → r .n ≤ 16
@@ -74,13 +58,6 @@ module _ (r : Roster) (t : Table) (site : ℕ) (h : List ℕ) (z : Sized t) (n :
   agreeing-stored = mask-cong (r .n) (agrees (t .words) (t .counts) site h) (matches (storedAt t site h) h) agrees-stored
 
 -- ---- the verdict on each kind
-
--- where one rule is left, the accepted outcomes need to agree only if its test fails
-judged-passed : {A : Type 0} (refuse : Refusal → A) (one other : A) (test : Bool) (e : Refusal) → (test ≡ false → one ≡ other)
-    → judged refuse one (test gives e ∷ []) ≡ judged refuse other (test gives e ∷ [])
-unfolding judged
-judged-passed refuse one other true e f = refl
-judged-passed refuse one other false e f = f refl
 
 module _ (r : Roster) (own : ℕ) (v : ViewRecord) (s : State) where
   -- what is made of a judgement by verdicts, where o is made of the accepted one

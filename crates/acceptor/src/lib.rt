@@ -1,11 +1,9 @@
 // The acceptor: it takes ballots, holds a history, and proves one that a quorum of sites verify.
 ghost use mathlib.Core.Bool.{cond};
-ghost use mathlib.Core.List.{_++_};
 ghost use mathlib.Core.Path.{_≡_};
 ghost use Prim.Native.Nat.{_≤_};
 ghost use lib.ListN.{length};
 ghost use Rattle.roster.specs.Sites.{maskTo};
-ghost use Rattle.history.specs.Words.{padded};
 ghost use Rattle.acceptor.specs.Acceptor as spec;
 ghost use Rattle.acceptor.specs.Verdict as verdict;
 use frame::Frame;
@@ -217,21 +215,6 @@ fn sign(own: u8, marks: Marks, h: &[u64]) -> Verdict
     put(after, own, h, true, false, VERIFY)
 }
 
-// Whether each command of h is by this proposer.
-fn all_by(proposer: u8, h: &[u64]) -> bool
-    ensures { λ b. ⌜ b ≡ spec.allBy proposer (now (h .entry)) ⌝ }
-{
-    let mut i: usize = 0;
-    while i < h.len() {
-        let own = command::proposer(h[i]) == proposer;
-        if !own {
-            return false;
-        }
-        i += 1;
-    }
-    true
-}
-
 // The verdict on what is held with the new commands: it is signed in canonical order, if it is not too long. Leaves `work` reordered.
 fn arrange(own: u8, marks: Marks, work: &mut [u64]) -> Verdict
     ensures { λ d. ⌜ d ≡ verdict.onUnion own marks (now (work .entry)) ⌝ }
@@ -298,7 +281,7 @@ fn propose(
     if stale {
         return against(marks, Refusal::Stale);
     }
-    let wrong = !command::all_valid(h) | !all_by(site, h);
+    let wrong = !command::all_valid(h) | !command::all_by(site, h);
     if wrong {
         return against(marks, Refusal::Command);
     }
@@ -643,46 +626,6 @@ fn judge<'a>(
     hear(r, own, v.view, marks, h, g, words, counts, reading.frame)
 }
 
-// Fills dst with the words of g, those of h after them, and zeros.
-fn lay(dst: &mut [u64], g: &[u64], h: &[u64])
-    ensures { λ r. ⌜ now (dst .exit) ≡ padded (length (now (dst .entry))) (now (g .entry) ++ now (h .entry)) ⌝ }
-{
-    history::fill(dst, g);
-    let n = g.len();
-    if n <= dst.len() {
-        history::fill(&mut dst[n..], h);
-    }
-}
-
-// A frame from `own` with two lists of commands.
-fn message<'a>(
-    kind: u8,
-    own: u8,
-    view: View,
-    ballot: Ballot,
-    proven: Ballot,
-    mask: u16,
-    g: &'a [u64],
-    h: &'a [u64],
-) -> Frame
-    requires { ⌜ (length (now g) ≤ 32) × (length (now h) ≤ 32) ⌝ }
-    ensures { λ m. ⌜ m ≡ spec.message kind own (view .0) (ballot .0) (proven .0) mask (now (g .entry)) (now (h .entry)) ⌝ }
-{
-    let mut words = [0u64; 64];
-    lay(&mut words, g, h);
-    Frame {
-        kind,
-        sender: own,
-        view,
-        ballot,
-        proven,
-        mask,
-        n: g.len() as u8,
-        m: h.len() as u8,
-        words,
-    }
-}
-
 // The P1B that reports what is proven and what is held.
 fn report(own: u8, marks: Marks, held: History, proven: History) -> Frame
     ensures { λ m. ⌜ m ≡ verdict.report own marks held proven ⌝ }
@@ -691,7 +634,7 @@ fn report(own: u8, marks: Marks, held: History, proven: History) -> Frame
     let theirs: &[u64] = &proven.words;
     let h = history::first(ours, held.count as usize);
     let g = history::first(theirs, proven.count as usize);
-    message(
+    site::message(
         P1B,
         own,
         View(0),
@@ -710,7 +653,7 @@ fn notice(kind: u8, own: u8, view: View, ballot: Ballot, mask: u16, history: His
     let all: &[u64] = &history.words;
     let h = history::first(all, history.count as usize);
     let none: [u64; 0] = [];
-    message(kind, own, view, ballot, Ballot(0), mask, h, &none)
+    site::message(kind, own, view, ballot, Ballot(0), mask, h, &none)
 }
 
 // The frame that a verdict sends: P1B, VERIFY or P2B.

@@ -10,7 +10,7 @@ use Rattle.roster.specs.declared.Roster.{Roster}
 use Rattle.roster.specs.Roster.{validRoster, quorum, weakCertificate, leaderOf}
 use Rattle.roster.specs.Mask.{bit, reaches, beyond, withSite}
 use Rattle.roster.specs.Sites.{countTo, allTo, maskTo}
-use Rattle.command.specs.Command.{validArgument, validCommand, allValid, field, proposer, kind, serial, slot, argument, sameRequest, kindsTable, kindsConflict, conflict}
+use Rattle.command.specs.Command.{validArgument, validCommand, allValid, wrong, allBy, field, proposer, kind, serial, slot, argument, sameRequest, kindsTable, kindsConflict, conflict}
 use Rattle.history.specs.History.{present, repeated, apart, free, least, without, ordered, canonical, equal, isCanonical, validHistory, improper, comesOff, extends}
 use Rattle.history.specs.Words.{padded, validStored}
 use Rattle.merge.specs.Merge.{appended, merge}
@@ -23,8 +23,8 @@ use Rattle.frame.specs.Layout.{longest}
 use Rattle.frame.specs.Kinds.{uses, isKind, zeroUnless, unusedZero}
 use Rattle.frame.specs.Format.{lineOf, proper, allZero, fits, writable, framed, frameOf, isLine, readingOf, malformed, hasRoom, writtenLength, written}
 use Rattle.site.specs.Site.{seated, validRecord}
+use Rattle.site.specs.Message.{message}
 use Rattle.acceptor.specs.Acceptor as acceptor
-use Rattle.acceptor.specs.Acceptor.{message}
 use Rattle.viewchange.specs.ViewChange as viewchange
 use Rattle.learner.specs.Learner as learner
 use Rattle.learner.specs.Run.{run}
@@ -46,28 +46,32 @@ B = 0x0202000100070000
 
 -- ---- the lines
 
+-- the line of a frame in view 0: its kind, sender, ballot, mask and commands
+abbrev said : ℕ → ℕ → ℕ → ℕ → List ℕ → List ℕ
+said kind own ballot mask h = lineOf (message kind own (record { 0 = 0 }) (record { 0 = ballot }) (record { 0 = 0 }) mask h [])
+
 -- site 0, which leads view 0, opens the fast ballot 1
 fast : List ℕ
-fast = lineOf (message 2 0 0 1 0 0 [] [])
+fast = said 2 0 1 0 []
 
 -- proposer 1 proposes A in it
 propose : List ℕ
-propose = lineOf (message 4 1 0 1 0 0 (A ∷ []) [])
+propose = said 4 1 1 0 (A ∷ [])
 
 -- site i verifies A, and votes for it with proofs of sites 0, 1 and 2
 verifies : ℕ → List ℕ
-verifies i = lineOf (message 6 i 0 1 0 0 (A ∷ []) [])
+verifies i = said 6 i 1 0 (A ∷ [])
 
 votes : ℕ → List ℕ
-votes i = lineOf (message 7 i 0 1 0 7 (A ∷ []) [])
+votes i = said 7 i 1 7 (A ∷ [])
 
 -- site 3 lies: it votes for B too, with proofs that it never had
 lie : List ℕ
-lie = lineOf (message 7 3 0 1 0 7 (B ∷ []) [])
+lie = said 7 3 1 7 (B ∷ [])
 
 -- and it suspects the leader
 suspicion : List ℕ
-suspicion = lineOf (message 8 3 0 0 0 0 [] [])
+suspicion = said 8 3 0 0 []
 
 -- ---- the call lists
 
@@ -107,7 +111,7 @@ pub premises-hold : Premises world
 unfolding
     four A B fast propose verifies votes lie suspicion buffer tell callsOf linesOf world
     sentLines isIn namesHonest authentic allAuthentic premises
-    field proposer kind serial slot argument validArgument validCommand allValid sameRequest kindsTable kindsConflict conflict
+    field proposer kind serial slot argument validArgument validCommand allValid wrong allBy sameRequest kindsTable kindsConflict conflict
     present repeated apart free least without ordered canonical equal isCanonical validHistory improper comesOff extends padded validStored
     appended merge answered merged appending.holds appending.reuses appending.nothingNew
     validRoster quorum weakCertificate leaderOf bit reaches beyond withSite ones onesIn countTo allTo maskTo
@@ -116,7 +120,7 @@ unfolding
     digit isDigit valueOf allDigits byteOf numberFrom digitsOf spell numbers allFit total
     uses isKind zeroUnless unusedZero lineOf proper allZero fits writable framed frameOf isLine readingOf malformed hasRoom writtenLength written
     seated validRecord
-    acceptor.config acceptor.notLeader acceptor.sameView acceptor.sameBallot acceptor.wrong acceptor.allBy acceptor.behindOf acceptor.entryOf acceptor.sign
+    acceptor.config acceptor.notLeader acceptor.sameView acceptor.sameBallot acceptor.behindOf acceptor.entryOf acceptor.sign
     acceptor.certificateOf acceptor.proves acceptor.store acceptor.step
     viewchange.isSuspicion viewchange.config viewchange.sender viewchange.stale viewchange.proof viewchange.suspected viewchange.sets viewchange.full
     viewchange.notice viewchange.suspicion viewchange.accepted viewchange.step

@@ -53,6 +53,15 @@ unfoldable pub allValid : List ℕ → Bool
 allValid [] = true
 allValid (c ∷ h) = validCommand c && allValid h
 
+-- COMMAND: "a command's fields are wrong, or in PROPOSE its proposer isn't the sender"
+unfoldable pub wrong : List ℕ → Bool
+wrong h = not (allValid h)
+
+-- whether each command of a list is by this proposer
+unfoldable pub allBy : ℕ → List ℕ → Bool
+allBy p [] = true
+allBy p (c ∷ h) = eqb (proposer c) p && allBy p h
+
 -- "proposer and serial agree": two commands of one request
 unfoldable pub sameRequest : ℕ → ℕ → Bool
 sameRequest c d = eqb (proposer c) (proposer d) && eqb (serial c) (serial d)

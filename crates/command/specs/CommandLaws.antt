@@ -11,7 +11,7 @@ use mathlib.Core.List.{List, []}
 use lib.Dec.{T, eqb, leb, eqb·zero-suc, eqb·suc-zero, eqb·suc-suc}
 use lib.ListN.{length, getD, drop, drop-of-length-le, List·getD-eq-default}
 use lib.Seq.{drop-cons}
-use borrow.Author.Tests.{eqb-true, eq-eqb, ne-eqb, leb-true, lt-leb}
+use borrow.Author.Tests.{eqb-true, eq-eqb, ne-eqb, leb-true, lt-leb, not-false}
 use Rattle.command.specs.Command.{
   proposer,
   serial,
@@ -28,6 +28,8 @@ use Rattle.command.specs.Command.{
   validArgument,
   validCommand,
   allValid,
+  wrong,
+  allBy,
 }
 
 -- Tests: equality of numbers is symmetric, and what a test of two parts tells.
@@ -185,6 +187,11 @@ pub valid-no-kind : (k a : ℕ) → (k ≡ enrol → ⊥) → (k ≡ revoke → 
 unfolding validArgument
 valid-no-kind k a p q r = rw (ne-eqb k enrol p, ne-eqb k revoke q, ne-eqb k raise r)
 
+-- where COMMAND passes, each command is valid
+pub right-commands : (h : List ℕ) → wrong h ≡ false → allValid h ≡ true
+unfolding wrong
+right-commands h e = not-false (allValid h) e
+
 -- A walk over a list: a wrong command gives no, a valid one leaves the answer to what comes after, and past the end the answer is yes.
 
 pub all-valid-stop : (h : List ℕ) (i : ℕ) → i < length h → validCommand (getD h i 0) ≡ false → allValid (drop i h) ≡ false
@@ -198,3 +205,18 @@ all-valid-more h i l e = rw (add-one, drop-cons h i 0, e)
 pub all-valid-end : (h : List ℕ) (i : ℕ) → length h ≤ i → allValid (drop i h) ≡ true
 unfolding allValid
 all-valid-end h i l = rw (drop-of-length-le h {i = i} l)
+
+-- So it is with the commands by one proposer.
+
+module _ (by : ℕ) (h : List ℕ) (i : ℕ) where
+  pub all-by-stop : i < length h → eqb (proposer (getD h i 0)) by ≡ false → allBy by (drop i h) ≡ false
+  unfolding allBy
+  all-by-stop l e = rw (drop-cons h i 0, e)
+
+  pub all-by-more : i < length h → eqb (proposer (getD h i 0)) by ≡ true → allBy by (drop i h) ≡ allBy by (drop (i + 1) h)
+  unfolding allBy
+  all-by-more l e = rw (add-one, drop-cons h i 0, e)
+
+  pub all-by-end : length h ≤ i → allBy by (drop i h) ≡ true
+  unfolding allBy
+  all-by-end l = rw (drop-of-length-le h {i = i} l)

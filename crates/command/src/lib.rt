@@ -95,6 +95,21 @@ pub fn all_valid(h: &[u64]) -> bool
     true
 }
 
+// Whether each command of h is by this proposer.
+pub fn all_by(by: u8, h: &[u64]) -> bool
+    ensures { λ r. ⌜ r ≡ spec.allBy by (now (h .entry)) ⌝ }
+{
+    let mut next: usize = 0;
+    while next < h.len() {
+        let own = proposer(h[next]) == by;
+        if !own {
+            return false;
+        }
+        next += 1;
+    }
+    true
+}
+
 // Whether two commands are of one proposer and serial.
 pub fn same_request(c: u64, d: u64) -> bool
     ensures { λ r. ⌜ r ≡ spec.sameRequest c d ⌝ }

@@ -16,7 +16,7 @@ use Rattle.frame.specs.Hex.{isDigit, allDigits, digitsOf, spell, numbers
 use Rattle.frame.specs.HexLaws.{all-append, number-digits, length-spell, all-spell, numbers-spell, numbers-fit, spell-numbers, length-numbers, numbers-take}
 use Rattle.frame.specs.Layout.{commandWidth, limit, capacity, widths, values, withValues, count, lineLength, longest}
 use Rattle.frame.specs.Kinds.{isKind, unusedZero}
-use Rattle.frame.specs.Format.{commands, lineFeed, lineOf, proper, allZero, fits, writable, padded, framed, frameOf, isLine, nothing, readingOf, hasRoom, writtenLength, written}
+use Rattle.frame.specs.Format.{commands, lineFeed, lineOf, proper, allZero, fits, writable, padded, framed, frameOf, isLine, blank, nothing, readingOf, hasRoom, writtenLength, written}
 use Rattle.frame.specs.Tests.{and-left, and-right, and-both}
 
 -- ---- the layout
@@ -496,3 +496,20 @@ module _ (l : List ℕ) (kinds : ℕ) where
 
     pub found-words : length (readingOf l kinds .frame .words) ≡ capacity
     found-words = writable-words (readingOf l kinds .frame) found-writable
+
+  -- what holds of each frame that can be written and of the blank one holds of what is read, found or not
+  read-frame : (P : Frame → Type 0) → ((f : Frame) → writable f ≡ true → P f) → P blank → P (readingOf l kinds .frame)
+  unfolding readingOf
+  read-frame P some none = go (isLine l) refl (bit kinds (frameOf l .kind))
+    where
+      go : (b : Bool) → isLine l ≡ b → (d : Bool) → P (cond (b && d) (record { found = true; frame = frameOf l }) nothing .frame)
+      go true e true = some (frameOf l) (frame-is-writable l e)
+      go true e false = none
+      go false e d = none
+
+  -- so each of its lists has at most 32 commands
+  pub read-n : readingOf l kinds .frame .n ≤ limit
+  read-n = read-frame (λ f. f .n ≤ limit) writable-n (omega arith)
+
+  pub read-m : readingOf l kinds .frame .m ≤ limit
+  read-m = read-frame (λ f. f .m ≤ limit) writable-m (omega arith)

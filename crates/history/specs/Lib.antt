@@ -11,3 +11,4 @@ pub mod Front
 pub mod FrontLaws
 pub mod Words
 pub mod WordsLaws
+pub mod FitLaws

@@ -7,6 +7,7 @@ use mathlib.Core.Bool.{true}
 use borrow.Author.Tests.{le-leb, leb-true}
 use lib.Dec.{leb}
 use lib.ListN.{length, take, drop, length-take}
+use lib.Seq.{take-all}
 use Rattle.history.specs.declared.History.{History}
 use Rattle.history.specs.History.{validHistory, extends}
 use Rattle.history.specs.ExtensionLaws.{and-left, and-right}
@@ -41,6 +42,10 @@ unfolding validStored
 stored-valid l p v =
     let counted : leb (min (length l) limit) limit ≡ true = le-leb (min (length l) limit) limit (omega arith) in
     rw (counted, commands-stored l p) v
+
+-- 32 words hold at most 32 commands, so taking the first 32 of them takes all
+pub commands-whole : (h : History) → length (h .words) ≤ limit → take limit (commands h) ≡ commands h
+commands-whole h p = take-all limit (commands h) (rw length-take (omega arith))
 
 -- within its length, the code's test of extension is the test
 pub extends-within : (n : ℕ) (h g : List ℕ) → length h ≤ n → extendsWithin n h g ≡ extends h g

@@ -1,12 +1,16 @@
--- Appending in a buffer: what is in it then, and that a buffer of 64 has room for two histories of 32.
+-- Appending in a buffer: what is in it then, and that a buffer of 64 has room for two histories of 32. What is appended fits eight bytes if both
+-- lists do.
 use mathlib.Core.Path.{_≡_, sym}
-use mathlib.Core.List.{List, _++_}
+use mathlib.Core.Bool.{Bool, true, false, cond}
+use mathlib.Core.List.{List, [], _∷_, _++_}
 use Prim.Native.Nat.{ℕ, _≤_}
 use native.Mathlib.Omega.{arith}
 use lib.ListN.{length, take, drop, length-append}
 use lib.Seq.{take-all, take-at}
+use Rattle.history.specs.History.{present}
 use Rattle.history.specs.Words.{padded}
 use Rattle.history.specs.WordsLaws.{length-padded, take-padded}
+use Rattle.history.specs.FitLaws.{EachFits, none, more, each-append}
 use Rattle.merge.specs.Merge.{appended, appendedIn}
 use Rattle.merge.specs.MergeLaws.{length-appended}
 
@@ -21,3 +25,13 @@ module _ (b : List ℕ) (k : ℕ) (h : List ℕ) (n : ℕ) (w : List ℕ) (p : n
 
   pub append-bound : n ≤ length w
   append-bound = rw (q, length-append) (omega arith)
+
+-- each word of what is appended fits eight bytes, if those of both lists do
+pub each-appended : {g h : List ℕ} → EachFits g → EachFits h → EachFits (appended g h)
+unfolding appended
+each-appended v none = v
+each-appended {g} v (more {c = c} p w) = each-appended (next (present c g)) w
+  where
+    next : (b : Bool) → EachFits (cond b g (g ++ c ∷ []))
+    next true = v
+    next false = each-append v (more p none)

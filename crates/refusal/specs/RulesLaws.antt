@@ -55,6 +55,13 @@ unfolding judged
 judged-later refuse one other true r rules more e = refl
 judged-later refuse one other false r rules more e = e refl
 
+-- where one rule is left, the accepted outcomes need to agree only if its test fails
+pub judged-passed : {A : Type 0} (refuse : Refusal → A) (one other : A) (test : Bool) (r : Refusal) → (test ≡ false → one ≡ other)
+    → judged refuse one (test gives r ∷ []) ≡ judged refuse other (test gives r ∷ [])
+unfolding judged
+judged-passed refuse one other true r e = refl
+judged-passed refuse one other false r e = e refl
+
 -- an accepted frame answers 0, and no refusal does
 pub number-pos : (r : Refusal) → 0 < number r
 number-pos Config = lit< tt

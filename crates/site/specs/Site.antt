@@ -1,7 +1,7 @@
--- A site: its roster, its own number and the buffer lent to it; and the view-change record.
+-- A site: its roster, its own number and the buffer lent to it; the flags of lent state; and the view-change record.
 use mathlib.Core.Bool.{Bool, not, _&&_}
 use Prim.Native.Nat.{ℕ}
-use lib.Dec.{leb, ltb}
+use lib.Dec.{leb, ltb, eqb}
 use Rattle.roster.specs.declared.Roster.{Roster}
 use Rattle.roster.specs.Roster.{validRoster}
 use Rattle.roster.specs.Mask.{beyond}
@@ -16,6 +16,10 @@ seated r own room = validRoster r && (ltb own (r .n) && leb longest room)
 -- and nothing with the record: no "mask bit at N or above"
 unfoldable pub validRecord : ℕ → ViewRecord → Bool
 validRecord n v = not (beyond (v .suspicions) n) && not (beyond (v .changes) n)
+
+-- a flag that the host lends is a number, 0 or not 0
+abbrev pub isSet : ℕ → Bool
+isSet n = not (eqb n 0)
 
 -- "the view-change record at 0"
 abbrev pub fresh : ViewRecord

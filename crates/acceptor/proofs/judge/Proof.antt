@@ -8,7 +8,8 @@ use lib.ListN.{length-take}
 use Rattle.refusal.specs.Rules.{judged}
 use Rattle.acceptor.specs.Verdict.{stateOf, onLine}
 use Rattle.table.specs.Table.{tableOf}
-use Rattle.acceptor.specs.VerdictLaws.{carried-short, few-sites}
+use Rattle.acceptor.specs.AcceptorLaws.{carried-short}
+use Rattle.acceptor.specs.VerdictLaws.{few-sites}
 use Rattle.acceptor.proofs.Tests.{line-form, line-frame}
 use borrow.Author.Needs.{needs}
 use Rattle.acceptor.proofs.judge.Statement.{statement}

@@ -2,7 +2,7 @@
 -- Assumes nothing.
 use mathlib.Core.Path.{_∙_}
 use native.Mathlib.Omega.{arith}
-use lib.ListN.{length-take}
+use Rattle.history.specs.WordsLaws.{commands-whole}
 use borrow.Author.Needs.{needs}
 use Rattle.acceptor.proofs.notice.Statement.{statement}
 use Rattle.acceptor.proofs.notice.Tie as tie
@@ -17,15 +17,14 @@ slice-aggregate-message : tie.Need-slice-aggregate-message
 slice-aggregate-message c = search needs
 
 message-requires : tie.Need-message-requires
-message-requires c κs =
-    let first-call = c .before .first in
-    (rw (first-call .ensures, length-take) (omega arith), omega arith)
+message-requires c κs = search needs
 
 returns : tie.Need-returns
 returns c =
+    let given = c .before .before .before .before .before .before .args in
     let message-call = c .message in
     let first-call = c .before .before .first in
-    message-call .ensures ∙ rw (first-call .ensures)
+    message-call .ensures ∙ rw (first-call .ensures, commands-whole (given .t6) (omega arith))
 
 pub notice-spec : {M : Type 1} → statement M
 notice-spec =

@@ -1,7 +1,7 @@
 -- `acceptor::propose` meets its contract: it asks the tests of SENDER, STALE, COMMAND and HISTORY in their order.
 -- Assumes nothing.
 use Rattle.refusal.specs.Rules.{judged}
-use Rattle.acceptor.specs.Acceptor.{wrong}
+use Rattle.command.specs.Command.{wrong}
 use Rattle.acceptor.specs.Verdict.{onProposal}
 use borrow.Author.Needs.{needs}
 use Rattle.acceptor.proofs.propose.Statement.{statement}

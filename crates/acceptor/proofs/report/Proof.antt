@@ -2,7 +2,7 @@
 -- Assumes nothing.
 use mathlib.Core.Path.{_∙_}
 use native.Mathlib.Omega.{arith}
-use lib.ListN.{length-take}
+use Rattle.history.specs.WordsLaws.{commands-whole}
 use borrow.Author.Needs.{needs}
 use Rattle.acceptor.proofs.report.Statement.{statement}
 use Rattle.acceptor.proofs.report.Tie as tie
@@ -20,17 +20,17 @@ first-requires-2 : tie.Need-first-requires-2
 first-requires-2 c κs = search needs
 
 message-requires : tie.Need-message-requires
-message-requires c κs =
-    let first2-call = c .first2 in
-    let first-call = c .before .first in
-    (rw (first2-call .ensures, length-take) (omega arith), rw (first-call .ensures, length-take) (omega arith))
+message-requires c κs = search needs
 
 returns : tie.Need-returns
 returns c =
+    let given = c .before .before .before .before .before .before .before .before .before .args in
     let message-call = c .message in
     let first2-call = c .before .first2 in
     let first-call = c .before .before .first in
-    message-call .ensures ∙ rw (first2-call .ensures, first-call .ensures)
+    let held-whole = commands-whole (given .t3) (omega (arith, c .before .before .before .before .before .before .ours2 .given)) in
+    let proven-whole = commands-whole (given .t4) (omega (arith, c .before .before .before .theirs2 .given)) in
+    message-call .ensures ∙ rw (first2-call .ensures, first-call .ensures, proven-whole, held-whole)
 
 pub report-spec : {M : Type 1} → statement M
 report-spec =

@@ -3,7 +3,7 @@
 use mathlib.Core.Path.{sym, _∙_}
 use borrow.Author.Tests.{not-true, not-false}
 use Rattle.refusal.specs.Rules.{judged}
-use Rattle.acceptor.specs.Acceptor.{wrong}
+use Rattle.command.specs.Command.{wrong}
 use Rattle.acceptor.specs.Verdict.{onVerify}
 use borrow.Author.Needs.{needs}
 use Rattle.acceptor.proofs.verify.Statement.{statement}

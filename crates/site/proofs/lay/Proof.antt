@@ -1,10 +1,10 @@
--- `acceptor::lay` meets its contract: the second list fills what is left behind the first.
+-- `site::lay` meets its contract: the second list fills what is left behind the first.
 -- Assumes nothing.
 use native.Mathlib.Omega.{arith}
-use Rattle.acceptor.proofs.Frames.{lay-both, lay-first}
+use Rattle.site.proofs.Frames.{lay-both, lay-first}
 use borrow.Author.Needs.{needs}
-use Rattle.acceptor.proofs.lay.Statement.{statement}
-use Rattle.acceptor.proofs.lay.Tie as tie
+use Rattle.site.proofs.lay.Statement.{statement}
+use Rattle.site.proofs.lay.Tie as tie
 
 fill-requires : tie.Need-fill-requires
 fill-requires c κs = search needs

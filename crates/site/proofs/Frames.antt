@@ -1,19 +1,14 @@
--- Two lists laid one after the other in an array, and one turn of the loop that looks at each proposer.
+-- Two lists laid one after the other in an array, and the length of a list that was cut.
 use mathlib.Core.Path.{_≡_, refl, ap, _∙_}
-use mathlib.Core.Bool.{true, false}
 use mathlib.Core.List.{List, [], _∷_, _++_, append-nil}
-use Prim.Native.Nat.{ℕ, zero, suc, _+_, _-_, _≤_, _<_}
+use Prim.Native.Nat.{ℕ, zero, suc, _-_, _^_, _≤_, _<_}
 use native.Mathlib.Omega.{arith}
 use native.Mathlib.Nat.{sub-zero}
-use native.Mathlib.Numerals.{add-one}
-use lib.Dec.{eqb}
-use lib.ListN.{length, take, drop, getD, drop-of-length-le, length-drop}
-use lib.Seq.{drop-cons, length-take-le}
+use lib.ListN.{length, take, drop, drop-of-length-le, length-take, length-drop}
+use lib.Seq.{length-take-le}
 use borrow.Rule.Slice.PartMut.{midOf, putMid}
-use Rattle.command.specs.Command.{proposer}
 use Rattle.history.specs.Words.{padded}
 use Rattle.history.specs.WordsLaws.{length-padded}
-use Rattle.acceptor.specs.Acceptor.{allBy}
 
 -- the first list fits, and the second is laid behind it; or the first list fills the array
 both : (n : ℕ) (g h : List ℕ) → length g ≤ n → take (length g) (padded n g) ++ padded (n - length g) h ≡ padded n (g ++ h)
@@ -46,20 +41,6 @@ module _ (dst g h w : List ℕ) where
       let size : length w ≡ length dst = ap length e ∙ length-padded (length dst) g in
       e ∙ full (length dst) g h (omega arith)
 
--- ---- the proposers of the commands from i on
-
-drop-next : (h : List ℕ) (i : ℕ) → i < length h → drop i h ≡ getD h i 0 ∷ drop (i + 1) h
-drop-next h i p = rw add-one (drop-cons h i 0 p)
-
-module _ (by : ℕ) (h : List ℕ) (i : ℕ) where
-  pub all-by-stop : i < length h → eqb (proposer (getD h i 0)) by ≡ false → allBy by (drop i h) ≡ false
-  unfolding allBy
-  all-by-stop p e = rw (drop-next h i p, e)
-
-  pub all-by-more : i < length h → eqb (proposer (getD h i 0)) by ≡ true → allBy by (drop i h) ≡ allBy by (drop (i + 1) h)
-  unfolding allBy
-  all-by-more p e = rw (drop-next h i p, e)
-
-  pub all-by-end : length h ≤ i → allBy by (drop i h) ≡ true
-  unfolding allBy
-  all-by-end p = rw (drop-of-length-le h p)
+-- the length of a list's first 32 words fits a byte
+pub cut-fits : (l w : List ℕ) → w ≡ take 32 l → length w < 2 ^ 8
+cut-fits l w e = rw (e, length-take) (omega arith)

@@ -1,0 +1,95 @@
+-- Which messages have a line, and what their first list is; and the words of a frame that was read.
+use mathlib.Core.Path.{_≡_, refl, subst}
+use mathlib.Core.Bool.{true, false, false≢true}
+use mathlib.Core.List.{List, [], _∷_, _++_, append-nil}
+use Prim.Native.Nat.{ℕ, zero, suc, _^_, _≤_, _<_}
+use native.Mathlib.Omega.{arith}
+use borrow.Author.Tests.{ltb-true, lt-ltb, not-false}
+use lib.Dec.{ltb}
+use lib.ListN.{length, take, drop, length-append}
+use Rattle.roster.specs.declared.View.{View}
+use Rattle.roster.specs.declared.Ballot.{Ballot}
+use Rattle.roster.specs.SitesLaws.{and-left, and-right}
+use Rattle.history.specs.Words.{limit, padded}
+use Rattle.history.specs.WordsLaws.{length-padded, take-padded}
+use Rattle.history.specs.FitLaws.{EachFits, none, more, each-take, each-append, each-padded}
+use Rattle.frame.specs.Hex.{allFit}
+use Rattle.frame.specs.Layout.{capacity, widths, first}
+use Rattle.frame.specs.Format.{readingOf, malformed, proper, allZero, writable}
+use Rattle.frame.specs.Format as format
+use Rattle.frame.specs.FormatLaws.{writable-is, is-writable, found-writable}
+use Rattle.site.specs.Message.{message}
+
+-- ---- words of eight bytes
+
+-- lists of them, as the format has it
+pub each-fit : (n : ℕ) {l : List ℕ} → EachFits l → length l ≡ n → allFit (format.commands n) l ≡ true
+unfolding allFit
+each-fit zero none e = refl
+each-fit zero (more p w) e = absurd (omega (arith, e))
+each-fit (suc n) none e = absurd (omega (arith, e))
+each-fit (suc n) (more {c = c} p w) e = rw (lt-ltb c (2 ^ 64) p) (each-fit n w (omega (arith, e)))
+
+pub fit-each : (n : ℕ) (l : List ℕ) → allFit (format.commands n) l ≡ true → EachFits l
+unfolding allFit
+fit-each zero [] e = none
+fit-each zero (c ∷ l) e = absurd (false≢true e)
+fit-each (suc n) [] e = absurd (false≢true e)
+fit-each (suc n) (c ∷ l) e = more (ltb-true c (2 ^ 64) (and-left (ltb c (2 ^ 64)) _ e)) (fit-each n l (and-right (ltb c (2 ^ 64)) _ e))
+
+-- those of a frame that FORM lets pass
+module _ (line : List ℕ) (kinds : ℕ) (e : malformed line kinds ≡ false) where
+  pub read-words-fit : EachFits (readingOf line kinds .frame .words)
+  unfolding malformed
+  read-words-fit =
+      let m = readingOf line kinds .frame in
+      fit-each capacity (m .words) (writable-is m (found-writable line kinds (not-false (readingOf line kinds .found) e)) .words-fit)
+
+  pub read-first-fits : EachFits (first (readingOf line kinds .frame))
+  read-first-fits = each-take (readingOf line kinds .frame .n) read-words-fit
+
+-- ---- which messages have a line
+
+-- after a list that is padded stand zeros
+padded-clear : (n : ℕ) (l : List ℕ) → allZero (drop (length l) (padded n l)) ≡ true
+unfolding padded allZero
+padded-clear zero [] = refl
+padded-clear zero (c ∷ l) = refl
+padded-clear (suc n) [] = padded-clear n []
+padded-clear (suc n) (c ∷ l) = padded-clear n l
+
+-- a header of numbers that fit
+header-fits : (kind own view ballot proven mask n m : ℕ) → kind < 256 → own < 256 → view < 2 ^ 32 → ballot < 2 ^ 32 → proven < 2 ^ 32 → mask < 2 ^ 16
+    → n < 256 → m < 256 → allFit widths (kind ∷ own ∷ view ∷ ballot ∷ proven ∷ mask ∷ n ∷ m ∷ []) ≡ true
+unfolding allFit
+header-fits kind own view ballot proven mask n m a b c d e f g h =
+    rw (
+      lt-ltb kind 256 a,
+      lt-ltb own 256 b,
+      lt-ltb view (2 ^ 32) c,
+      lt-ltb ballot (2 ^ 32) d,
+      lt-ltb proven (2 ^ 32) e,
+      lt-ltb mask (2 ^ 16) f,
+      lt-ltb n 256 g,
+      lt-ltb m 256 h,
+    )
+
+-- a proper message of such numbers, with two lists of at most 32 words
+module _ (kind own : ℕ) (view : View) (ballot proven : Ballot) (mask : ℕ) {h k : List ℕ} (p : length h ≤ limit) (q : length k ≤ limit)
+    (v : EachFits h) (w : EachFits k) where
+  pub message-writable : kind < 256 → own < 256 → view .0 < 2 ^ 32 → ballot .0 < 2 ^ 32 → proven .0 < 2 ^ 32 → mask < 2 ^ 16
+      → proper (message kind own view ballot proven mask h k) ≡ true → writable (message kind own view ballot proven mask h k) ≡ true
+  message-writable a b c d e f good =
+      is-writable (message kind own view ballot proven mask h k)
+      (record {
+        values-proper = good;
+        clear = subst (λ (n : ℕ). allZero (drop n (padded capacity (h ++ k))) ≡ true) (length-append h k) (padded-clear capacity (h ++ k));
+        header-fits = header-fits kind own (view .0) (ballot .0) (proven .0) mask (length h) (length k) a b c d e f (omega arith) (omega arith);
+        words-fit = each-fit capacity (each-padded capacity (each-append v w)) (length-padded capacity (h ++ k));
+      })
+
+-- ---- the lists of a message
+
+-- the first list of a frame with one list
+pub first-is : (h : List ℕ) → length h ≤ capacity → take (length h) (padded capacity (h ++ [])) ≡ h
+first-is h l = rw (append-nil h) (take-padded capacity h l)
