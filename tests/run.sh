@@ -12,7 +12,7 @@ tests/learn.sh target/bin/learn
 rt staticlib speckleewe >/dev/null
 library=target/staticlib/libspeckleewe.a
 tests/model/run.sh $library --self
-for role in learner viewchange acceptor; do
+for role in learner viewchange acceptor leader; do
     tests/model/run.sh $library $role
 done
 tests/cluster/run.sh $library

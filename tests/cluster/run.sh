@@ -9,9 +9,10 @@ if [ $# -lt 1 ] || [ ! -f "$1" ]; then
     cat >&2 <<'TEXT'
 usage: run.sh LIBRARY [SEED [COUNT]]
        run.sh LIBRARY --run SEED
-Runs COUNT simulated clusters with liars over the library's acceptor, view
-change and learner, and looks after each step whether the learners agree. With
---run, one run by its own seed, with every line that is handed in.
+Runs COUNT simulated clusters with liars over the library's leader, acceptor,
+view change and learner, and looks after each step whether the learners agree
+and what leaders propose. With --run, one run by its own seed, with every line
+that is handed in.
 TEXT
     exit 2
 fi

@@ -5,24 +5,15 @@
 #   wrong.sh [NAME]
 set -eu
 here=$(cd -- "$(dirname -- "$0")" && pwd)
-. "$here/../model/build.sh"
+. "$here/../model/trials.sh"
 name=${1-}
 out=$here/../../target/cluster
-wrong=$here/../../target/wrong
-missed=0
 
 # try NAME FILE OLD NEW: something must go wrong.
 try() {
-    if [ "${name:-$1}" != "$1" ]; then
-        return
-    fi
-    wrong_stub "$wrong" "$2" "$3" "$4"
-    build_program "$out" wrong-cluster "$here/src/main.rs" "$wrong/libwrong.a"
-    if "$out/wrong-cluster" >"$wrong/log" 2>&1; then
-        echo "$1: NOT FOUND"
-        missed=$((missed + 1))
-    else
-        echo "$1: $(grep -m 1 -o -e 'run of seed.\{0,150\}' -e 'panicked.*' "$wrong/log")"
+    if [ "${name:-$1}" = "$1" ]; then
+        trial "$out" "$here/src/main.rs" "$1" "$2" "$3" "$4" \
+            -o -e 'run of seed.\{0,150\}' -e 'panicked.*'
     fi
 }
 
@@ -55,9 +46,12 @@ try 'votes need not extend what is proven' acceptor.rs \
 try 'an own entry at another place' acceptor.rs \
     'store(&mut after.verified, usize::from(site.own), h);' \
     'store(&mut after.verified, usize::from(site.own) + 1, h);'
+try 'only equal commands are skipped' leader.rs '!h.iter().any(|&b| same_request(b, c))' \
+    '!h.contains(&c)'
+try 'f+1 reports are enough' leader.rs \
+    's.reported.count_ones() >= quorum(r)' 's.reported.count_ones() > u32::from(r.f)'
+try 'reports after N-f are taken' leader.rs 'first && !complete(r, s)' 'first'
+try 'a leader keeps silent' leader.rs 'if result.is_empty() {' 'if !result.is_empty() {'
+try 'pending is emptied' leader.rs 'filter(|c| !result.contains(c))' 'filter(|_| false)'
 try 'held histories are not ordered' acceptor.rs '&canonical(&longer))' '&longer)'
-if [ "$missed" -ne 0 ]; then
-    echo "$missed wrong libraries were not found"
-    exit 1
-fi
-echo "all wrong libraries were found"
+summary

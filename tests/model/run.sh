@@ -9,8 +9,8 @@ usage() {
 usage: run.sh LIBRARY [ROLE] [SEED [COUNT]]
        run.sh LIBRARY --self
 Compares a role of the static library with its model on random frames, at
-least COUNT of them. ROLE is learner (if none is given), viewchange or
-acceptor. With --self only the models run, on cases worked out by hand.
+least COUNT of them. ROLE is learner (if none is given), viewchange, acceptor
+or leader. With --self only the models run, on cases worked out by hand.
 TEXT
     exit 2
 }
@@ -28,7 +28,7 @@ case ${1-} in
     build_program "$out" self-test "$here/src/bin/selftest.rs"
     exec "$out/self-test"
     ;;
-learner | viewchange | acceptor)
+learner | viewchange | acceptor | leader)
     role=$1
     shift
     ;;

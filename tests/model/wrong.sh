@@ -4,25 +4,15 @@
 #   wrong.sh [ROLE [NAME]]
 set -eu
 here=$(cd -- "$(dirname -- "$0")" && pwd)
-. "$here/build.sh"
+. "$here/trials.sh"
 role=${1-}
 name=${2-}
 out=$here/../../target/model
-wrong=$here/../../target/wrong
-missed=0
 
 # try ROLE NAME FILE OLD NEW: the wrong library must differ from the model.
 try() {
-    if [ "${role:-$1}" != "$1" ] || [ "${name:-$2}" != "$2" ]; then
-        return
-    fi
-    wrong_stub "$wrong" "$3" "$4" "$5"
-    build_program "$out" "wrong-$1" "$here/src/bin/$1.rs" "$wrong/libwrong.a"
-    if "$out/wrong-$1" >"$wrong/log" 2>&1; then
-        echo "$1: $2: NOT FOUND"
-        missed=$((missed + 1))
-    else
-        echo "$1: $2: $(grep -m 1 -e difference -e panicked "$wrong/log")"
+    if [ "${role:-$1}" = "$1" ] && [ "${name:-$2}" = "$2" ]; then
+        trial "$out" "$here/src/bin/$1.rs" "$1: $2" "$3" "$4" "$5" -e difference -e panicked
     fi
 }
 
@@ -81,10 +71,10 @@ try $a 'no signing mark' acceptor.rs '    after.signed = 1;' ''
 try $a 'no own entry' acceptor.rs '    store(&mut after.verified, usize::from(site.own), h);' ''
 try $a 'VERIFY in view 0' acceptor.rs 'view: site.view, ballot' 'view: 0, ballot'
 try $a 'held need not extend proven' acceptor.rs 'if !extends(held, commands(&s.proven)) {' 'if false {'
-try $a 'reuse is not seen' acceptor.rs 'same_request(h, c) && h != c' 'false && same_request(h, c)'
-try $a 'NOTHING if one is held' acceptor.rs 'proposed.iter().all(|c| held' 'proposed.iter().any(|c| held'
-try $a 'FULL counts those held' acceptor.rs 'longer.len() > LIMIT' 'held.len() + proposed.len() > LIMIT'
-try $a 'FULL at 32' acceptor.rs 'longer.len() > LIMIT' 'longer.len() >= LIMIT'
+try $a 'reuse is not seen' rules.rs 'same_request(h, c) && h != c' 'false && same_request(h, c)'
+try $a 'NOTHING if one is held' rules.rs 'proposed.iter().all(|c| list' 'proposed.iter().any(|c| list'
+try $a 'FULL counts those held' rules.rs 'longer.len() > LIMIT' 'list.len() + proposed.len() > LIMIT'
+try $a 'FULL at 32' rules.rs 'longer.len() > LIMIT' 'longer.len() >= LIMIT'
 try $a 'the result is not ordered' acceptor.rs '&canonical(&longer))' '&longer)'
 try $a 'an equal VERIFY is not stored' acceptor.rs \
     'if !extends(h, before) {' 'if h == before || !extends(h, before) {'
@@ -146,8 +136,76 @@ try $l 'extension is a byte prefix' rules.rs \
 try $l 'split if neither extends the other' rules.rs \
     '!repeats(&k) && extends(&k, g)' '(extends(g, h) || extends(h, g)) && extends(&k, g)'
 
-if [ "$missed" -ne 0 ]; then
-    echo "$missed wrong libraries were not found"
-    exit 1
-fi
-echo "all wrong libraries were found"
+# The leader.
+d=leader
+try $d 'the lowest report is chosen' leader.rs 'max_by_key(|&i| (proven(i).len(), Reverse(i)))' \
+    'min_by_key(|&i| Reverse(Reverse(i)))'
+try $d 'of equals the highest site' leader.rs 'proven(i).len(), Reverse(i)' 'proven(i).len(), i'
+try $d 'the shortest is chosen' leader.rs '(proven(i).len(), Reverse(i))' \
+    '(Reverse(proven(i).len()), Reverse(i))'
+try $d 'unmarked rows count' leader.rs 's.reported & bit(i) != 0).collect' \
+    's.reported & bit(i) != 0 || true).collect'
+try $d 'only equal commands are skipped' leader.rs '!h.iter().any(|&b| same_request(b, c))' \
+    '!h.contains(&c)'
+try $d 'stops at 31' leader.rs 'h.len() < LIMIT &&' 'h.len() + 1 < LIMIT &&'
+try $d 'held by falling site' leader.rs 'for i in reporting(r, s) {' \
+    'for i in reporting(r, s).into_iter().rev() {'
+try $d 'pending before held' leader.rs 'let mut h = chosen(r, s);' \
+    'let mut h = chosen(r, s); append(&mut h, commands(&s.pending));'
+try $d 'held histories are left out' leader.rs \
+    '        append(&mut h, entry(&s.held, usize::from(i)));' '        let _ = i;'
+try $d 'the result is not ordered' leader.rs 'canonical(&collected(r, &after))' 'collected(r, &after)'
+try $d 'an empty P2A goes out' leader.rs 'if result.is_empty() {' 'if false {'
+try $d 'pending keeps all' leader.rs 'filter(|c| !result.contains(c))' 'filter(|_| true)'
+try $d 'pending is emptied' leader.rs 'filter(|c| !result.contains(c))' 'filter(|_| false)'
+try $d 'pending loses reused requests' leader.rs 'filter(|c| !result.contains(c))' \
+    'filter(|&c| !result.iter().any(|&b| same_request(b, c)))'
+try $d 'pending is kept where nothing leaves' leader.rs \
+    'after.pending = stored(&left.collect::<Vec<Command>>());' \
+    'let left: Vec<Command> = left.collect();
+    if left.len() < commands(&s.pending).len() { after.pending = stored(&left); }'
+try $d 'report N-f closes the ballot' leader.rs 'let result = canonical' \
+    'after.classic = 0; let result = canonical'
+try $d 'N-f+1 reports needed' leader.rs 's.reported.count_ones() >= quorum(r)' \
+    's.reported.count_ones() > quorum(r)'
+try $d 'f+1 reports are enough' leader.rs 's.reported.count_ones() >= quorum(r)' \
+    's.reported.count_ones() > u32::from(r.f)'
+try $d 'reports after N-f are taken' leader.rs 'first && !complete(r, s)' 'first'
+try $d 'a second report is taken' leader.rs 's.ballot && first &&' 's.ballot &&'
+try $d 'reports in a fast ballot' leader.rs 's.classic != 0 && f.ballot' 'f.ballot'
+try $d 'classic only if the flag is 1' leader.rs 's.classic != 0 &&' 's.classic == 1 &&'
+try $d 'reports of any ballot' leader.rs 's.classic != 0 && f.ballot == s.ballot' 's.classic != 0'
+try $d 'an equal view is taken' leader.rs 'f.view > s.view' 'f.view >= s.view'
+try $d 'the view of another is taken' leader.rs 'leads(r, own, f.view) && f.view' 'f.view'
+try $d 'a new view closes the ballot' leader.rs 'Leader { view: f.view, ..s.clone() }' \
+    'Leader { view: f.view, classic: 0, ..s.clone() }'
+try $d 'f+1 ones are enough' leader.rs 'f.mask.count_ones() >= quorum(r)' \
+    'f.mask.count_ones() > u32::from(r.f)'
+try $d 'mask bits at N or above pass' leader.rs '!bit_outside(r, f.mask) &&' ''
+try $d 'nothing proven, with a mask' leader.rs 'f.proven == 0 && f.mask == 0' 'f.proven == 0'
+try $d 'nothing proven, with a ballot' leader.rs 'f.proven == 0 && f.mask == 0' 'f.mask == 0'
+try $d 'held commands may be wrong' leader.rs 'right(&frame.first) && right(&frame.second)' \
+    'right(&frame.first)'
+try $d 'held histories may be in any order' leader.rs '[&frame.first, &frame.second].iter()' \
+    '[&frame.first].iter()'
+try $d 'PROPOSE of one ballot only' leader.rs '_ => true,' '_ => f.ballot == s.ballot,'
+try $d 'pending is ordered' leader.rs 'stored(&longer)' 'stored(&canonical(&longer))'
+try $d 'pending must be canonical' leader.rs 'list_sound(s.pending' 'list_valid(s.pending'
+try $d 'the reported mask is not looked at' leader.rs '        && !bit_outside(r, s.reported)' ''
+try $d 'held rows are not looked at' leader.rs '        && table_valid(r, &s.held)' ''
+try $d 'a report without its proven history' leader.rs \
+    '    store(&mut after.proven, usize::from(sender), &frame.first);' ''
+try $d 'P2A in view 0' leader.rs 'view: s.view, ballot: s.ballot' 'view: 0, ballot: s.ballot'
+try $d 'an equal ballot is opened' leader.rs 'ballot <= s.ballot' 'ballot < s.ballot'
+try $d 'a ballot is opened in the view of another' leader.rs ' || !leads(r, own, s.view) {' ' {'
+try $d 'opening remembers reports' leader.rs '        reported: 0,' ''
+try $d 'opening leaves old words' leader.rs 'proven: Table::empty(),' \
+    'proven: Table { counts: [0; 16], ..s.proven.clone() },'
+try $d 'opening leaves held rows' leader.rs '        held: Table::empty(),' ''
+try $d 'opening forgets pending' leader.rs '        reported: 0,' \
+    '        reported: 0, pending: stored(&[]),'
+try $d 'opening fast leaves the classic ballot' leader.rs 'classic: u8::from(!fast),' 'classic: 1,'
+try $d 'fast only if the flag is 1' leader.rs 'fast != 0, out' 'fast == 1, out'
+try $d 'a byte less room will do' leader.rs 'room >= ROOM' 'room + 1 >= ROOM'
+
+summary

@@ -43,6 +43,18 @@ stored-valid l p v =
     let counted : leb (min (length l) limit) limit ≡ true = le-leb (min (length l) limit) limit (omega arith) in
     rw (counted, commands-stored l p) v
 
+-- storing takes the first 32 commands of a list
+padded-first : (n : ℕ) (l : List ℕ) → padded n (take n l) ≡ padded n l
+unfolding padded
+padded-first zero l = refl
+padded-first (suc n) [] = refl
+padded-first (suc n) (c ∷ l) = ap (λ (x : List ℕ). c ∷ x) (padded-first n l)
+
+pub stored-first : (l : List ℕ) → stored (take limit l) ≡ stored l
+stored-first l =
+    let counts : min (length (take limit l)) limit ≡ min (length l) limit = rw length-take (omega arith) in
+    λ i. record { count = counts i; words = padded-first limit l i }
+
 -- 32 words hold at most 32 commands, so taking the first 32 of them takes all
 pub commands-whole : (h : History) → length (h .words) ≤ limit → take limit (commands h) ≡ commands h
 commands-whole h p = take-all limit (commands h) (rw length-take (omega arith))

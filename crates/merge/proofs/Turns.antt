@@ -7,25 +7,15 @@ use Prim.Native.Nat.{ℕ, zero, suc, _+_, _≤_, _<_, min}
 use native.Mathlib.Omega.{arith}
 use native.Mathlib.Nat.{zero-min, min-zero, suc-min-suc}
 use native.Mathlib.Numerals.{add-one}
-use lib.ListN.{length, take, drop, getD, set, drop-of-length-le, length-take, length-set, take-append-drop, length-append}
-use lib.Seq.{take-length, drop-cons, take-all, take-take, length-take-le, take-append-seam, take-suc-set, drop-set-lt, drop-drop}
+use lib.ListN.{length, take, drop, getD, set, drop-of-length-le, length-take, length-set, take-append-drop}
+use lib.Seq.{drop-cons, take-all, length-take-le, take-suc-set, drop-set-lt, drop-drop}
 use Rattle.history.specs.History.{present}
 use Rattle.merge.specs.Merge.{appended, appendedIn}
+use Rattle.merge.specs.AppendingLaws.{appended-front}
 
 appended-next : (g : List ℕ) (c : ℕ) (h : List ℕ) → appended g (c ∷ h) ≡ appended (cond (present c g) g (g ++ c ∷ [])) h
 unfolding appended
 appended-next g c h = refl
-
--- appending keeps what was there in front
-front : (g h : List ℕ) → take (length g) (appended g h) ≡ g
-unfolding appended
-front g [] = take-length g
-front g (c ∷ h) = go (present c g) (front (cond (present c g) g (g ++ c ∷ [])) h)
-  where
-    go : (b : Bool) → take (length (cond b g (g ++ c ∷ []))) (appended (cond b g (g ++ c ∷ [])) h) ≡ cond b g (g ++ c ∷ []) → take (length g) (appended (cond b g (g ++ c ∷ [])) h) ≡ g
-    go true p = p
-    go false p =
-        sym (take-take (length g) (length (g ++ c ∷ [])) _ (omega (arith, length-append g (c ∷ [])))) ∙ ap (take (length g)) p ∙ take-append-seam g (c ∷ [])
 
 take-capped : (k : ℕ) (l : List ℕ) → take (min k (length l)) l ≡ take k l
 take-capped zero l = rw zero-min
@@ -62,7 +52,7 @@ module _ (buf more : List ℕ) (n i : ℕ) (buf₀ answer : List ℕ) (inv : App
   pub append-full : length buf ≤ n → (n ≡ length answer) × (buf ≡ answer ++ drop n buf₀)
   append-full p =
       let all : length buf₀ ≡ length (take n buf) = rw length-take (omega (arith, inv .size, inv .room)) in
-      done (sym (inv .rest) ∙ ap (λ (k : ℕ). take k (appended (take n buf) (drop i more))) all ∙ front (take n buf) (drop i more))
+      done (sym (inv .rest) ∙ ap (λ (k : ℕ). take k (appended (take n buf) (drop i more))) all ∙ appended-front (take n buf) (drop i more))
 
   module _ (p : i < length more) where
     next : drop i more ≡ getD more i 0 ∷ drop (i + 1) more

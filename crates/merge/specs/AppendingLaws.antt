@@ -1,12 +1,12 @@
 -- Appending in a buffer: what is in it then, and that a buffer of 64 has room for two histories of 32. What is appended fits eight bytes if both
 -- lists do.
-use mathlib.Core.Path.{_≡_, sym}
+use mathlib.Core.Path.{_≡_, sym, ap, _∙_}
 use mathlib.Core.Bool.{Bool, true, false, cond}
 use mathlib.Core.List.{List, [], _∷_, _++_}
 use Prim.Native.Nat.{ℕ, _≤_}
 use native.Mathlib.Omega.{arith}
 use lib.ListN.{length, take, drop, length-append}
-use lib.Seq.{take-all, take-at}
+use lib.Seq.{take-all, take-at, take-length, take-take, take-append-seam}
 use Rattle.history.specs.History.{present}
 use Rattle.history.specs.Words.{padded}
 use Rattle.history.specs.WordsLaws.{length-padded, take-padded}
@@ -14,9 +14,24 @@ use Rattle.history.specs.FitLaws.{EachFits, none, more, each-append}
 use Rattle.merge.specs.Merge.{appended, appendedIn}
 use Rattle.merge.specs.MergeLaws.{length-appended}
 
+-- appending keeps what was there in front
+pub appended-front : (g h : List ℕ) → take (length g) (appended g h) ≡ g
+unfolding appended
+appended-front g [] = take-length g
+appended-front g (c ∷ h) = go (present c g) (appended-front (cond (present c g) g (g ++ c ∷ [])) h)
+  where
+    go : (b : Bool) → take (length (cond b g (g ++ c ∷ []))) (appended (cond b g (g ++ c ∷ [])) h) ≡ cond b g (g ++ c ∷ []) → take (length g) (appended (cond b g (g ++ c ∷ [])) h) ≡ g
+    go true p = p
+    go false p =
+        sym (take-take (length g) (length (g ++ c ∷ [])) _ (omega (arith, length-append g (c ∷ [])))) ∙ ap (take (length g)) p ∙ take-append-seam g (c ∷ [])
+
+-- appending in a buffer that holds g and zeros: as much as there is room for
+pub appended-in-row : (n : ℕ) (g h : List ℕ) → length g ≤ n → appendedIn (padded n g) (length g) h ≡ take n (appended g h)
+appended-in-row n g h p = rw (length-padded n g, take-padded n g p)
+
 pub appended-in-work : (g h : List ℕ) → length g ≤ 32 → length h ≤ 32 → appendedIn (padded 64 g) (length g) h ≡ appended g h
 appended-in-work g h p q =
-    rw (length-padded 64 g, take-padded 64 g (omega arith)) (take-all 64 (appended g h) (omega (arith, length-appended g h)))
+    appended-in-row 64 g h (omega arith) ∙ take-all 64 (appended g h) (omega (arith, length-appended g h))
 
 -- after `append`, the first n words of w are what was appended, and w has so many
 module _ (b : List ℕ) (k : ℕ) (h : List ℕ) (n : ℕ) (w : List ℕ) (p : n ≡ length (appendedIn b k h)) (q : w ≡ appendedIn b k h ++ drop n b) where

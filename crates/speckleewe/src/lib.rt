@@ -2,11 +2,13 @@
 // first byte and its length.
 ghost use mathlib.Core.Path.{_≡_};
 ghost use Rattle.acceptor.specs.Acceptor as accepting;
+ghost use Rattle.leader.specs.Leader as leading;
 ghost use Rattle.learner.specs.Learner as learning;
 ghost use Rattle.site.specs.Site as views;
 ghost use Rattle.viewchange.specs.ViewChange as change;
-ghost use Rattle.speckleewe.specs.Outcomes.{acceptorOutcome, learnerOutcome, viewChangeOutcome};
+ghost use Rattle.speckleewe.specs.Outcomes.{acceptorOutcome, leaderOutcome, learnerOutcome, viewChangeOutcome};
 use learner::State;
+use roster::Ballot;
 use roster::Roster;
 use site::ViewRecord;
 
@@ -32,6 +34,14 @@ pub struct AcceptorOutcome {
     pub answer: u8,
     pub sent: usize,
     pub state: acceptor::State,
+}
+
+// What a leader's call answers: the answer's number, how many bytes of the buffer are to be sent, and the state after it.
+#[repr(C)]
+pub struct LeaderOutcome {
+    pub answer: u8,
+    pub sent: usize,
+    pub state: leader::State,
 }
 
 // A fresh learner: nothing stored, nothing learned.
@@ -115,4 +125,57 @@ pub extern "C" fn acceptor_step(
         sent: bytes,
         state: next,
     }
+}
+
+// A fresh leader: all 0 and empty.
+#[no_mangle]
+pub extern "C" fn leader_fresh() -> leader::State
+    ensures { λ s. ⌜ s ≡ leading.fresh ⌝ }
+{
+    leader::State::fresh()
+}
+
+// A leader's outcome with its answer's number.
+fn numbered(o: leader::Outcome) -> LeaderOutcome
+    ensures { λ n. ⌜ n ≡ leaderOutcome o ⌝ }
+{
+    let heard = o.answer;
+    let length = o.sent;
+    let kept = o.state;
+    LeaderOutcome {
+        answer: heard.number(),
+        sent: length,
+        state: kept,
+    }
+}
+
+// One step of the leader of site `own`.
+#[no_mangle]
+pub extern "C" fn leader_step(
+    roster: Roster,
+    own: u8,
+    state: leader::State,
+    line: &[u8],
+    out: &mut [u8],
+) -> LeaderOutcome
+    ensures { λ o. ⌜ (o ≡ leaderOutcome (leading.returned roster own state (now (line .entry)) (now (out .entry)))) × (now (out .exit) ≡ leading.output roster own state (now (line .entry)) (now (out .entry))) ⌝ }
+{
+    let o = leader::step(roster, own, state, line, out);
+    numbered(o)
+}
+
+// The leader of site `own` opens a ballot, a classic one where `fast` is 0.
+#[no_mangle]
+pub extern "C" fn leader_open_ballot(
+    roster: Roster,
+    own: u8,
+    state: leader::State,
+    ballot: Ballot,
+    fast: u8,
+    out: &mut [u8],
+) -> LeaderOutcome
+    ensures { λ o. ⌜ (o ≡ leaderOutcome (leading.openingReturned roster own state ballot fast (now (out .entry)))) × (now (out .exit) ≡ leading.openingOutput roster own state ballot fast (now (out .entry))) ⌝ }
+{
+    let o = leader::open_ballot(roster, own, state, ballot, fast, out);
+    numbered(o)
 }

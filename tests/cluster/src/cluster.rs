@@ -9,9 +9,7 @@ use crate::scheme::Scheme;
 use crate::site::Site;
 use crate::stats::Stats;
 use crate::watch::Watch;
-use model::frames::{
-    self, Fields, FAST, LEADER, P1A, P1B, P2B, PROPOSE, SUSPICION, VERIFY, VIEWCHANGE,
-};
+use model::frames::{self, Fields, LEADER, P1B, P2B, PROPOSE, SUSPICION, VERIFY, VIEWCHANGE};
 use model::generate::{command, mask_of, Rng};
 use model::layout::Learner;
 use model::rules::*;
@@ -34,8 +32,8 @@ pub struct Cluster {
     pub top: u32,
     /// All commands that proposers made.
     pub made: Vec<Command>,
-    /// Those that the leader is to propose.
-    pub pending: Vec<Command>,
+    /// The lines of what they proposed.
+    proposals: Vec<Line>,
     serial: u16,
     pub scheme: Option<Scheme>,
     pub stats: Stats,
@@ -52,14 +50,14 @@ impl Cluster {
         Cluster {
             sites: (0..n).map(|i| plan.honest(i).then(|| Site::new(i))).collect(),
             leaders: (0..n).map(Leader::new).collect(),
-            learners: (0..plan.learners).map(|_| library::fresh_learner()).collect(),
+            learners: (0..plan.learners).map(|_| library::learner_fresh()).collect(),
             network: Network::default(),
             host: Host::default(),
             watch: Watch::new(plan.learners),
             heard: Vec::new(),
             top: 0,
             made: Vec::new(),
-            pending: Vec::new(),
+            proposals: Vec::new(),
             serial: 0,
             scheme: None,
             stats: Stats::default(),
@@ -131,20 +129,9 @@ impl Cluster {
         Ok(())
     }
 
-    /// A line at a leader, if that is an honest one.
-    fn at_leader(&mut self, i: u8, line: &Line) -> Result<(), String> {
-        if self.plan.honest(i) {
-            let leader = &mut self.leaders[usize::from(i)];
-            if let Some(proposal) = leader.take(&self.plan.roster, line, &self.pending) {
-                self.publish(proposal);
-            }
-        }
-        Ok(())
-    }
-
     /// A line at a learner.
     fn at_learner(&mut self, k: usize, line: &Line) -> Result<(), String> {
-        let o = library::step_learner(&self.plan.roster, &self.learners[k], line);
+        let o = library::learner_step(&self.plan.roster, &self.learners[k], line);
         self.stats.answer(2, o.answer);
         self.watch.learner(&self.plan.roster, k, line, &o)?;
         self.learners[k] = o.state;
@@ -187,8 +174,7 @@ impl Cluster {
     }
 
     /// Sends a line that an honest leader or host wrote to all sites.
-    fn publish(&mut self, text: Vec<u8>) {
-        let line = Rc::new(text);
+    pub fn publish(&mut self, line: Line) {
         self.host.note(&line);
         self.hear(&line);
         self.to_sites(&line);
@@ -216,9 +202,10 @@ impl Cluster {
         }
         match self.rng.below(100) {
             0..=37 => self.send_again(),
-            38..=57 => self.propose(),
-            58..=73 => self.open(),
-            74..=84 => self.propose_more(),
+            38..=53 => self.propose(),
+            54..=57 => self.propose_again(),
+            58..=75 => return self.open(),
+            76..=84 => self.lead_again(),
             85 | 86 => self.cut(),
             87..=92 => self.begin_scheme(),
             _ => return self.suspect(),
@@ -260,38 +247,6 @@ impl Cluster {
         views.iter().copied().max_by_key(|&v| (count(v), v)).unwrap_or(0)
     }
 
-    /// The leader of the common view opens a ballot, if it has that view; a
-    /// liar leads as it likes.
-    fn open(&mut self) {
-        let view = self.common_view();
-        let i = (view % u32::from(self.plan.roster.n)) as u8;
-        if !self.plan.honest(i) {
-            return self.lead(i, view);
-        }
-        if self.leaders[usize::from(i)].view != view || self.top == u32::MAX {
-            return;
-        }
-        self.top += 1;
-        self.stats.ballots += 1;
-        let kind = if self.rng.percent(self.plan.fast) { FAST } else { P1A };
-        let line = self.leaders[usize::from(i)].open(kind, self.top);
-        self.publish(line);
-    }
-
-    /// The leader of the common view proposes more in its ballot.
-    fn propose_more(&mut self) {
-        let view = self.common_view();
-        let i = (view % u32::from(self.plan.roster.n)) as u8;
-        if self.plan.honest(i) {
-            let leader = &mut self.leaders[usize::from(i)];
-            if let Some(line) = leader.more(&self.plan.roster, &self.pending) {
-                self.publish(line);
-            }
-        } else {
-            self.lead(i, view);
-        }
-    }
-
     /// A new command of a proposer; RAISE commutes with RAISE.
     fn make(&mut self, proposer: u8) -> Command {
         self.serial += 1;
@@ -306,23 +261,25 @@ impl Cluster {
     }
 
     /// A proposer sends some commands, to all sites in the ballot of one of
-    /// them and to the leader; a lying one sends others with the same serials
-    /// to some.
+    /// them and to leaders; a lying one sends others with the same serials to
+    /// some.
     fn propose(&mut self) {
         let proposer = self.rng.between(1, 3) as u8;
         let mut h: Vec<Command> = Vec::new();
         for _ in 0..self.rng.pick(&[1, 1, 1, 2, 3]) {
             h.push(self.make(proposer));
         }
-        self.pending.extend(&h);
         let honest = self.plan.honest_sites();
         let at = usize::from(self.rng.pick(&honest));
         let ballot = self.sites[at].as_ref().map_or(0, |s| s.acceptor.ballot);
         let fields = Fields { ballot, ..Fields::of(PROPOSE, proposer) };
         let line = Rc::new(frames::write(fields.clone(), &h, &[]));
+        self.proposals.push(line.clone());
+        self.to_leaders(&line);
         if self.plan.lying_proposers && self.rng.percent(40) {
             let other: Vec<Command> = h.iter().map(|c| c ^ 0x0003_0000).collect();
             let second = Rc::new(frames::write(fields, &other, &[]));
+            self.to_leaders(&second);
             for i in 0..self.plan.roster.n {
                 if self.rng.percent(70) {
                     self.send(Place::Site(i), &line);
@@ -333,6 +290,24 @@ impl Cluster {
             }
         } else {
             self.to_sites(&line);
+        }
+    }
+
+    /// A proposal goes to the leader of the common view and to some others.
+    fn to_leaders(&mut self, line: &Line) {
+        let first = (self.common_view() % u32::from(self.plan.roster.n)) as u8;
+        for i in 0..self.plan.roster.n {
+            if i == first || self.rng.percent(30) {
+                self.send(Place::Leader(i), line);
+            }
+        }
+    }
+
+    /// Proposers send some of their lines to the leaders again.
+    fn propose_again(&mut self) {
+        for _ in 0..3 {
+            let line = self.rng.pick(&self.proposals);
+            self.to_leaders(&line);
         }
     }
 

@@ -1,105 +1,127 @@
-//! A plain honest leader: opens ballots, collects reports and proposes what
-//! extends the longest proven history.
+//! The leaders of honest sites, run by the library, and what their hosts do:
+//! they open ballots and send lines again.
 
-use model::frames::{self, Fields, Frame, LEADER, P1B, P2A};
-use model::layout::Roster;
+use crate::cluster::Cluster;
+use crate::library;
+use crate::network::Line;
+use model::generate::Rng;
+use model::layout::{self, Ballot, LeaderOutcome, Roster};
 use model::rules::*;
-use std::collections::BTreeMap;
+use std::rc::Rc;
 
-/// The leader at a site.
+/// The leader at a site, and the last line that it sent.
 pub struct Leader {
     site: u8,
-    pub view: u32,
-    pub ballot: u32,
-    /// Reports of the classic ballot that is open.
-    reports: Option<BTreeMap<u8, Frame>>,
-    /// What it proposed in this ballot.
-    proposal: Vec<Command>,
+    state: layout::Leader,
+    last: Option<Line>,
 }
 
-/// Appends what isn't there by proposer and serial, up to 32.
-fn append(h: &mut Vec<Command>, more: &[Command]) {
-    for &c in more {
-        if h.len() < LIMIT && !h.iter().any(|&b| same_request(b, c)) {
-            h.push(c);
-        }
-    }
+/// What came of a call, beside the state before it.
+pub struct Called {
+    pub before: layout::Leader,
+    /// Was the buffer long enough?
+    room: bool,
+    pub answer: u8,
+    pub sent: Option<Line>,
 }
 
 impl Leader {
-    /// A leader that has only view 0.
+    /// A fresh leader.
     pub fn new(site: u8) -> Leader {
-        Leader { site, view: 0, ballot: 0, reports: None, proposal: Vec::new() }
+        Leader { site, state: library::leader_fresh(), last: None }
     }
 
-    /// Opens a ballot; the line goes to all sites.
-    pub fn open(&mut self, kind: u8, ballot: u32) -> Vec<u8> {
-        self.ballot = ballot;
-        self.reports = if kind == frames::P1A { Some(BTreeMap::new()) } else { None };
-        self.proposal.clear();
-        frames::write(Fields { view: self.view, ballot, ..Fields::of(kind, self.site) }, &[], &[])
+    /// A call, now and then with too short a buffer.
+    fn call(
+        &mut self,
+        rng: &mut Rng,
+        call: impl Fn(u8, &layout::Leader, &mut [u8]) -> LeaderOutcome,
+    ) -> Called {
+        let mut out = [0; ROOM];
+        let room = if rng.percent(1) { rng.below(ROOM) } else { ROOM };
+        let o = call(self.site, &self.state, &mut out[..room]);
+        let before = std::mem::replace(&mut self.state, o.state);
+        let sent = (o.sent > 0).then(|| Rc::new(out[..o.sent].to_vec()));
+        if sent.is_some() {
+            self.last = sent.clone();
+        }
+        Called { before, room: room == ROOM, answer: o.answer, sent }
     }
 
-    /// Takes a LEADER or P1B; a proposal may go to all sites.
-    pub fn take(&mut self, r: &Roster, line: &[u8], pending: &[Command]) -> Option<Vec<u8>> {
-        let frame = frames::read(line, &[LEADER, P1B])?;
-        let f = &frame.fields;
-        if f.kind == LEADER {
-            let proven = f.mask.count_ones() >= quorum(r) && !bit_outside(r, f.mask);
-            if proven && leads(r, self.site, f.view) && f.view > self.view {
-                self.view = f.view;
-            }
-            return None;
-        }
-        self.report(r, frame, pending)
+    /// Hands in a line.
+    fn hand_in(&mut self, rng: &mut Rng, r: &Roster, line: &[u8]) -> Called {
+        self.call(rng, |site, s, out| library::leader_step(r, site, s, line, out))
     }
 
-    /// Keeps a right report; at N-f of them proposes.
-    fn report(&mut self, r: &Roster, frame: Frame, pending: &[Command]) -> Option<Vec<u8>> {
-        let reports = self.reports.as_mut()?;
-        let least = quorum(r) as usize;
-        let f = &frame.fields;
-        let right =
-            |h: &[Command]| h.iter().all(|&c| command_valid(c)) && !repeats(h) && is_canonical(h);
-        let proof = frame.first.is_empty() || f.mask.count_ones() as usize >= least;
-        let fits = f.ballot == self.ballot && f.sender < r.n && reports.len() < least;
-        if !fits || !proof || !right(&frame.first) || !right(&frame.second) {
-            return None;
+    /// Opens a ballot.
+    fn open(&mut self, rng: &mut Rng, r: &Roster, ballot: u32, fast: u8) -> Called {
+        let ballot = Ballot(ballot);
+        self.call(rng, |site, s, out| library::leader_open_ballot(r, site, s, ballot, fast, out))
+    }
+}
+
+impl Cluster {
+    /// A line at a leader, if that is an honest one.
+    pub fn at_leader(&mut self, i: u8, line: &Line) -> Result<(), String> {
+        if !self.plan.honest(i) {
+            return Ok(());
         }
-        reports.insert(f.sender, frame);
-        if reports.len() < least {
-            return None;
-        }
-        let mut h: Vec<Command> = Vec::new();
-        for report in reports.values() {
-            if report.first.len() > h.len() {
-                h = report.first.clone();
-            }
-        }
-        for report in reports.values() {
-            append(&mut h, &report.second);
-        }
-        append(&mut h, pending);
-        self.propose(h)
+        let leader = &mut self.leaders[usize::from(i)];
+        let called = leader.hand_in(&mut self.rng, &self.plan.roster, line);
+        self.led(i, line, called)
     }
 
-    /// The P2A of a history, if it isn't empty.
-    fn propose(&mut self, h: Vec<Command>) -> Option<Vec<u8>> {
-        self.proposal = canonical(&h);
-        if h.is_empty() {
-            return None;
+    /// Looks at a leader's call, with a line or none, and sends what it sent.
+    fn led(&mut self, i: u8, line: &[u8], called: Called) -> Result<(), String> {
+        self.stats.answer(3, called.answer);
+        if (called.answer == CONFIG) == called.room {
+            return Err(format!("leader {i}: CONFIG says the opposite of the buffer"));
         }
-        let fields = Fields { view: self.view, ballot: self.ballot, ..Fields::of(P2A, self.site) };
-        Some(frames::write(fields, &self.proposal, &[]))
+        let after = &self.leaders[usize::from(i)].state;
+        let proposed = self.watch.leader(&self.plan.roster, i, line, &called, after)?;
+        self.stats.proposals += u64::from(proposed);
+        if let Some(line) = called.sent {
+            self.publish(line);
+        }
+        Ok(())
     }
 
-    /// Proposes more in the same ballot, or the same again.
-    pub fn more(&mut self, r: &Roster, pending: &[Command]) -> Option<Vec<u8>> {
-        if self.reports.as_ref()?.len() < quorum(r) as usize {
-            return None;
+    /// The leader of the common view opens a ballot, if it has that view; now
+    /// and then another tries to, or with the last number again. A liar leads
+    /// as it likes.
+    pub fn open(&mut self) -> Result<(), String> {
+        let view = self.common_view();
+        let first = (view % u32::from(self.plan.roster.n)) as u8;
+        let other = self.rng.percent(4);
+        let i = if other { self.rng.pick(&self.plan.honest_sites()) } else { first };
+        if !self.plan.honest(i) {
+            self.lead(i, view);
+            return Ok(());
         }
-        let mut h = self.proposal.clone();
-        append(&mut h, pending);
-        self.propose(h)
+        let leader = &mut self.leaders[usize::from(i)];
+        if (leader.state.view != view && !other) || self.top == u32::MAX {
+            return Ok(());
+        }
+        let fast = u8::from(self.rng.percent(self.plan.fast));
+        let ballot = self.top + u32::from(!self.rng.percent(2));
+        let called = leader.open(&mut self.rng, &self.plan.roster, ballot, fast);
+        if called.answer == ACCEPTED {
+            self.top = ballot;
+            self.stats.ballots += 1;
+            self.watch.opened(i);
+        }
+        self.led(i, &[], called)
+    }
+
+    /// The leader of the common view sends its last line again.
+    pub fn lead_again(&mut self) {
+        let view = self.common_view();
+        let i = (view % u32::from(self.plan.roster.n)) as u8;
+        if !self.plan.honest(i) {
+            return self.lead(i, view);
+        }
+        if let Some(line) = self.leaders[usize::from(i)].last.clone() {
+            self.to_sites(&line);
+        }
     }
 }

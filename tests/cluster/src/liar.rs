@@ -4,7 +4,7 @@ use crate::cluster::Cluster;
 use crate::network::{Line, Place};
 use crate::site::Site;
 use model::frames::{self, *};
-use model::generate::damage::broken_line;
+use model::generate::lines::broken_line;
 use model::generate::{draw, good_mask, mask_of, Rng};
 use model::rules::*;
 use std::rc::Rc;
@@ -207,7 +207,7 @@ impl Cluster {
         self.send(place, &Rc::new(broken));
     }
 
-    /// A report of a proven history that isn't, or of nothing.
+    /// A report of a proven history that isn't, of nothing, or with any mask.
     fn report_falsely(&mut self, liar: u8) {
         let Some(site) = self.some_site() else { return };
         let (view, ballot) = (site.views.view, site.acceptor.ballot);
@@ -215,9 +215,10 @@ impl Cluster {
         let proven = commands(&site.acceptor.proven).to_vec();
         let held = commands(&site.acceptor.held).to_vec();
         let n = usize::from(self.plan.roster.n);
-        let (proven_ballot, mask, proven) = match self.rng.below(3) {
-            0 => (0, 0, vec![]),
-            1 => (proven_ballot, mask, proven),
+        let (proven_ballot, mask, proven) = match self.rng.below(7) {
+            0 | 1 => (0, 0, vec![]),
+            2 | 3 => (proven_ballot, mask, proven),
+            4 => (proven_ballot, self.rng.next() as u16, proven),
             _ => (
                 ballot,
                 mask_of(&mut self.rng, n, n - 1),
@@ -229,10 +230,18 @@ impl Cluster {
         self.send(Place::Leader((view % u32::from(self.plan.roster.n)) as u8), &line);
     }
 
-    /// Suspicions and changes of view.
+    /// Suspicions, changes of view and news of one to its leader.
     fn unsettle(&mut self, liar: u8) {
         let Some(site) = self.some_site() else { return };
         let views = site.views;
+        if self.rng.percent(15) {
+            let view = views.view.saturating_add(self.rng.below(3) as u32);
+            let r = self.plan.roster;
+            let mask = good_mask(&mut self.rng, &r, quorum(&r) as usize);
+            let fields = Fields { view, mask, ..Fields::of(LEADER, liar) };
+            let line = Rc::new(frames::write(fields, &[], &[]));
+            return self.send(Place::Leader((view % u32::from(r.n)) as u8), &line);
+        }
         let fields = if self.rng.percent(40) {
             Fields { view: views.view, ..Fields::of(SUSPICION, liar) }
         } else {

@@ -44,6 +44,9 @@ fn many(seed: u64, count: u64) -> Result<(), String> {
         one(rng.next(), false, &mut stats)?;
     }
     stats.print();
+    if count >= 100 && stats.learning < count / 4 * 3 {
+        return Err("learners learned in too few runs".to_string());
+    }
     println!("nothing went wrong");
     Ok(())
 }

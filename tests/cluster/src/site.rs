@@ -32,8 +32,8 @@ impl Site {
     pub fn new(number: u8) -> Site {
         Site {
             number,
-            views: library::fresh_record(),
-            acceptor: library::fresh_acceptor(),
+            views: library::view_record_fresh(),
+            acceptor: library::acceptor_fresh(),
             last: BTreeMap::new(),
         }
     }
@@ -56,7 +56,7 @@ impl Site {
 
     /// A step of the view change: its answer and the length sent.
     fn change_view(&mut self, roster: &Roster, line: &Line, out: &mut [u8]) -> (u8, usize) {
-        let o = library::step_view_change(roster, self.number, &self.views, line, out);
+        let o = library::view_change_step(roster, self.number, &self.views, line, out);
         self.views = o.views;
         (o.answer, o.sent)
     }
@@ -64,7 +64,7 @@ impl Site {
     /// A step of the acceptor: its answer and the length sent.
     fn accept(&mut self, roster: &Roster, line: &Line, out: &mut [u8]) -> (u8, usize) {
         let (views, state) = (&self.views, &self.acceptor);
-        let o = library::step_acceptor(roster, self.number, views, state, line, out);
+        let o = library::acceptor_step(roster, self.number, views, state, line, out);
         self.acceptor = o.state;
         (o.answer, o.sent)
     }

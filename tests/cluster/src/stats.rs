@@ -23,14 +23,17 @@ pub struct Stats {
     pub changes: u64,
     /// Lines that hosts didn't hand in.
     pub kept_out: u64,
-    /// Answers of acceptors, view changes and learners.
-    answers: [[u64; 14]; 3],
+    /// P2A that honest leaders sent.
+    pub proposals: u64,
+    /// Answers of acceptors, view changes, learners and leaders.
+    answers: [[u64; 14]; 4],
     /// Runs by the length of the longest history learned.
     lengths: BTreeMap<u64, u64>,
 }
 
 impl Stats {
-    /// Counts an answer of acceptor (0), view change (1) or learner (2).
+    /// Counts an answer of acceptor (0), view change (1), learner (2) or
+    /// leader (3).
     pub fn answer(&mut self, role: usize, answer: u8) {
         self.answers[role][usize::from(answer)] += 1;
     }
@@ -48,6 +51,7 @@ impl Stats {
         self.taken += run.taken;
         self.changes += run.changes;
         self.kept_out += run.kept_out;
+        self.proposals += run.proposals;
         for (sum, more) in self.answers.iter_mut().flatten().zip(run.answers.iter().flatten()) {
             *sum += more;
         }
@@ -61,7 +65,8 @@ impl Stats {
 
     /// Prints the sums.
     pub fn print(&self) {
-        for (role, answers) in ["acceptors", "view changes", "learners"].iter().zip(self.answers) {
+        let roles = ["acceptors", "view changes", "learners", "leaders"];
+        for (role, answers) in roles.iter().zip(self.answers) {
             let all: Vec<String> =
                 answers.iter().enumerate().map(|(a, times)| format!("{a}: {times}")).collect();
             println!("answers of {role}: {}", all.join(", "));
@@ -70,9 +75,9 @@ impl Stats {
             self.lengths.iter().map(|(length, runs)| format!("{length}: {runs}")).collect();
         println!("runs by commands learned: {}", lengths.join(", "));
         println!(
-            "{} ballots opened, taken {} times; views changed {} times, in {} runs; \
-             {} lines kept out by hosts",
-            self.ballots, self.taken, self.changes, self.changed, self.kept_out
+            "{} ballots opened, taken {} times, {} proposals of honest leaders; views changed \
+             {} times, in {} runs; {} lines kept out by hosts",
+            self.ballots, self.taken, self.proposals, self.changes, self.changed, self.kept_out
         );
         println!(
             "{} runs in which learners were ahead of each other, {} in which votes went apart",

@@ -1,11 +1,12 @@
 //! The conclusions of demand 3, looked at after each step; beside them, that
-//! each site's votes form a chain.
+//! each site's votes form a chain, and what an honest leader proposes.
 
-use model::frames::{self, P2B};
-use model::layout::{Learner, LearnerOutcome, Roster};
+use crate::leader::Called;
+use model::frames::{self, Frame, P1B, P2A, P2B};
+use model::layout::{Leader, Learner, LearnerOutcome, Roster};
 use model::learner::learned;
 use model::rules::*;
-use std::collections::HashMap;
+use std::collections::{BTreeMap, HashMap};
 
 /// What has been seen of one learner.
 #[derive(Default, Clone)]
@@ -22,6 +23,8 @@ pub struct Watch {
     everything: Vec<Command>,
     /// The history of each site's last vote.
     votes: Vec<Vec<Command>>,
+    /// For each leader, the reports that it accepted in its ballot, by site.
+    reports: Vec<BTreeMap<u8, Frame>>,
     /// Were there ever two learners of which neither's history extends the
     /// other's?
     pub apart: bool,
@@ -42,6 +45,7 @@ impl Watch {
             learners: vec![Seen::default(); learners],
             everything: Vec::new(),
             votes: vec![Vec::new(); SITES],
+            reports: vec![BTreeMap::new(); SITES],
             apart: false,
             divided: false,
         }
@@ -112,6 +116,73 @@ impl Watch {
         }
         self.divided |= self.votes.iter().any(|h| merge(h, &vote.first).is_none());
         self.votes[site] = vote.first;
+        Ok(())
+    }
+
+    /// A leader opened a ballot: reports count anew.
+    pub fn opened(&mut self, leader: u8) {
+        self.reports[usize::from(leader)].clear();
+    }
+
+    /// Looks at an honest leader's call and says whether it proposed. What was
+    /// pending still is, or is proposed; report N-f alone makes it propose.
+    pub fn leader(
+        &mut self,
+        r: &Roster,
+        at: u8,
+        line: &[u8],
+        called: &Called,
+        after: &Leader,
+    ) -> Result<bool, String> {
+        let sent = called.sent.as_ref().map_or(&[][..], |line| line);
+        let proposal = frames::read(sent, &[P2A]).map(|p| p.first);
+        let (before, pending) = (commands(&called.before.pending), commands(&after.pending));
+        let proposed = |c: &Command| proposal.as_ref().is_some_and(|h| h.contains(c));
+        if !before.iter().all(|c| pending.contains(c) || proposed(c)) {
+            return Err(format!("leader {at} lost what was pending"));
+        }
+        let due = called.answer == ACCEPTED && self.completes(r, at, line);
+        match &proposal {
+            Some(h) if due => self.proposal(at, h)?,
+            Some(_) => return Err(format!("leader {at} proposed without report N-f")),
+            None if due && (!before.is_empty() || self.something(at)) => {
+                return Err(format!("leader {at} kept silent on report N-f"));
+            }
+            None => {}
+        }
+        Ok(proposal.is_some())
+    }
+
+    /// Notes a line that a leader accepted; is it report N-f?
+    fn completes(&mut self, r: &Roster, at: u8, line: &[u8]) -> bool {
+        let Some(report) = frames::read(line, &[P1B]) else { return false };
+        let reports = &mut self.reports[usize::from(at)];
+        reports.insert(report.fields.sender, report);
+        reports.len() == quorum(r) as usize
+    }
+
+    /// Does any report have a command?
+    fn something(&self, at: u8) -> bool {
+        let mut reports = self.reports[usize::from(at)].values();
+        reports.any(|f| !f.first.is_empty() || !f.second.is_empty())
+    }
+
+    /// What a leader proposes is a history in canonical order that extends the
+    /// longest proven one of its reports, of equals the lowest site's.
+    fn proposal(&self, at: u8, h: &[Command]) -> Result<(), String> {
+        if repeats(h) || !is_canonical(h) {
+            return Err(format!("leader {at}: {} is no canonical history", text(h)));
+        }
+        let mut chosen: &[Command] = &[];
+        for report in self.reports[usize::from(at)].values() {
+            if report.first.len() > chosen.len() {
+                chosen = &report.first;
+            }
+        }
+        if !extends(h, chosen) {
+            let (h, chosen) = (text(h), text(chosen));
+            return Err(format!("leader {at}: {h} doesn't extend {chosen}"));
+        }
         Ok(())
     }
 

@@ -116,17 +116,7 @@ fn propose(site: &Site, s: &Acceptor, proposed: &[Command]) -> Verdict {
     if !extends(held, commands(&s.proven)) {
         return Err(BEHIND);
     }
-    let reused = |c: Command| held.iter().any(|&h| same_request(h, c) && h != c);
-    if proposed.iter().any(|&c| reused(c)) {
-        return Err(REUSED);
-    }
-    if proposed.iter().all(|c| held.contains(c)) {
-        return Err(NOTHING);
-    }
-    let longer = followed_by_rest(held, proposed);
-    if longer.len() > LIMIT {
-        return Err(FULL);
-    }
+    let longer = appended(held, proposed)?;
     sign(site, s, &canonical(&longer))
 }
 

@@ -86,6 +86,34 @@ pub struct AcceptorOutcome {
     pub state: Acceptor,
 }
 
+/// A ballot as an argument.
+#[repr(C)]
+#[derive(Clone, Copy, Debug, PartialEq, Eq)]
+pub struct Ballot(pub u32);
+
+/// A leader's state. `reported` are the sites that reported in this ballot,
+/// `proven` and `held` the histories of their reports.
+#[repr(C)]
+#[derive(Clone, PartialEq, Eq)]
+pub struct Leader {
+    pub view: u32,
+    pub ballot: u32,
+    pub classic: u8,
+    pub pending: History,
+    pub reported: u16,
+    pub proven: Table,
+    pub held: Table,
+}
+
+/// What a leader's step, or its opening of a ballot, answers.
+#[repr(C)]
+#[derive(Clone, PartialEq, Eq)]
+pub struct LeaderOutcome {
+    pub answer: u8,
+    pub sent: usize,
+    pub state: Leader,
+}
+
 impl History {
     /// No command.
     pub fn empty() -> History {
@@ -126,6 +154,21 @@ impl Acceptor {
             certified: 0,
             certificate: 0,
             verified: Table::empty(),
+        }
+    }
+}
+
+impl Leader {
+    /// A leader at its start.
+    pub fn fresh() -> Leader {
+        Leader {
+            view: 0,
+            ballot: 0,
+            classic: 0,
+            pending: History::empty(),
+            reported: 0,
+            proven: Table::empty(),
+            held: Table::empty(),
         }
     }
 }

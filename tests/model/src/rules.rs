@@ -182,17 +182,35 @@ pub fn merge(g: &[Command], h: &[Command]) -> Option<Vec<Command>> {
     }
 }
 
+/// A list followed by those of the proposed commands that it lacks, or the
+/// number of the refusal: REUSED, NOTHING or FULL.
+pub fn appended(list: &[Command], proposed: &[Command]) -> Result<Vec<Command>, u8> {
+    let reused = |c: Command| list.iter().any(|&h| same_request(h, c) && h != c);
+    if proposed.iter().any(|&c| reused(c)) {
+        return Err(REUSED);
+    }
+    if proposed.iter().all(|c| list.contains(c)) {
+        return Err(NOTHING);
+    }
+    let longer = followed_by_rest(list, proposed);
+    if longer.len() > LIMIT {
+        return Err(FULL);
+    }
+    Ok(longer)
+}
+
 // ---- Lists that are lent --------------------------------------------------
 
-/// A stored list, by its count and its 32 words, is one that may be lent:
-/// words past the count mean nothing.
-pub fn list_valid(count: u8, words: &[u64]) -> bool {
+/// A stored list in any order, by its count and its 32 words, is one that may
+/// be lent: words past the count mean nothing.
+pub fn list_sound(count: u8, words: &[u64]) -> bool {
     let count = usize::from(count);
-    if count > LIMIT {
-        return false;
-    }
-    let h = &words[..count];
-    h.iter().all(|&c| command_valid(c)) && !repeats(h) && is_canonical(h)
+    count <= LIMIT && words[..count].iter().all(|&c| command_valid(c)) && !repeats(&words[..count])
+}
+
+/// A stored list that is a history is one that may be lent: canonical too.
+pub fn list_valid(count: u8, words: &[u64]) -> bool {
+    list_sound(count, words) && is_canonical(&words[..usize::from(count)])
 }
 
 /// May the history be lent?

@@ -77,7 +77,7 @@ impl Tally {
 
 /// The labels of a list's faults.
 pub fn list_labels(name: &str) -> Vec<String> {
-    FAULTS.iter().map(|fault| format!("CONFIG by {name} alone: {fault}")).collect()
+    (0..FAULTS.len()).map(|fault| fault_label(name, fault)).collect()
 }
 
 /// Labels as they are kept.
@@ -85,24 +85,29 @@ pub fn owned(labels: &[&str]) -> Vec<String> {
     labels.iter().map(|l| l.to_string()).collect()
 }
 
-/// The label of the first fault of a lent list, if it has one.
-pub fn list_fault(name: &str, count: u8, words: &[u64]) -> Option<String> {
-    let label = |fault: usize| Some(format!("CONFIG by {name} alone: {}", FAULTS[fault]));
+/// The label of a fault of a list.
+pub fn fault_label(name: &str, fault: usize) -> String {
+    format!("CONFIG by {name} alone: {}", FAULTS[fault])
+}
+
+/// The first fault of a lent list, if it has one.
+pub fn first_fault(count: u8, words: &[u64]) -> Option<usize> {
     if usize::from(count) > LIMIT {
-        return label(0);
+        return Some(0);
     }
     let h = &words[..usize::from(count)];
     if !h.iter().all(|&c| command_valid(c)) {
-        return label(1);
+        return Some(1);
     }
     if repeats(h) {
-        return label(2);
+        return Some(2);
     }
-    if is_canonical(h) {
-        None
-    } else {
-        label(3)
-    }
+    (!is_canonical(h)).then_some(3)
+}
+
+/// The label of the first fault of a lent list, if it has one.
+pub fn list_fault(name: &str, count: u8, words: &[u64]) -> Option<String> {
+    first_fault(count, words).map(|fault| fault_label(name, fault))
 }
 
 /// The case of FORM of a line that a role refused so.

@@ -1,8 +1,7 @@
 -- `speckleewe::learner_step` meets its contract: the step's outcome, with its answer's number.
 -- Assumes nothing.
-use mathlib.Core.Path.{_≡_, ap, _∙_}
+use mathlib.Core.Path.{ap, _∙_}
 use borrow.Author.Needs.{needs}
-use Rattle.speckleewe.specs.declared.LearnerOutcome.{LearnerOutcome}
 use Rattle.speckleewe.specs.Outcomes.{learnerOutcome}
 use Rattle.speckleewe.proofs.learner_step.Statement.{statement}
 use Rattle.speckleewe.proofs.learner_step.Tie as tie

@@ -10,14 +10,15 @@ use std::process::ExitCode;
 
 /// What the library makes of a call.
 fn step(call: &Call) -> (AcceptorOutcome, Vec<u8>) {
-    let mut out = guarded(&call.out);
-    let lent = &mut out[..call.out.len()];
+    let mut out = guarded(&call.given.out);
+    let lent = &mut out[..call.given.out.len()];
     let c = call;
-    let outcome = library::step_acceptor(&c.roster, c.own, &c.views, &c.state, &c.line, lent);
+    let outcome =
+        library::acceptor_step(&c.given.roster, c.given.own, &c.views, &c.state, &c.line, lent);
     (outcome, out)
 }
 
 /// Seed and count are the arguments.
 fn main() -> ExitCode {
-    model::driver::main::<AcceptorRole>(library::fresh_acceptor, step)
+    model::driver::main::<AcceptorRole>(library::acceptor_fresh, step)
 }

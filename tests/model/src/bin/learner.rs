@@ -9,10 +9,10 @@ use std::process::ExitCode;
 
 /// What the library makes of a call.
 fn step(call: &Call) -> LearnerOutcome {
-    library::step_learner(&call.roster, &call.state, &call.line)
+    library::learner_step(&call.roster, &call.state, &call.line)
 }
 
 /// Seed and count are the arguments.
 fn main() -> ExitCode {
-    model::driver::main::<LearnerRole>(library::fresh_learner, step)
+    model::driver::main::<LearnerRole>(library::learner_fresh, step)
 }

@@ -10,13 +10,19 @@ use std::process::ExitCode;
 
 /// What the library makes of a call.
 fn step(call: &Call) -> (ViewChangeOutcome, Vec<u8>) {
-    let mut out = guarded(&call.out);
-    let lent = &mut out[..call.out.len()];
-    let outcome = library::step_view_change(&call.roster, call.own, &call.views, &call.line, lent);
+    let mut out = guarded(&call.given.out);
+    let lent = &mut out[..call.given.out.len()];
+    let outcome = library::view_change_step(
+        &call.given.roster,
+        call.given.own,
+        &call.views,
+        &call.line,
+        lent,
+    );
     (outcome, out)
 }
 
 /// Seed and count are the arguments.
 fn main() -> ExitCode {
-    model::driver::main::<ViewChangeRole>(library::fresh_record, step)
+    model::driver::main::<ViewChangeRole>(library::view_record_fresh, step)
 }

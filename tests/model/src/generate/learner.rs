@@ -1,6 +1,7 @@
 //! Random calls of the learner.
 
 use super::damage::*;
+use super::lines::broken_line;
 use super::{bad_mask, draw, good_mask, good_roster, Material, Rng};
 use crate::frames::{encode, Fields, P2B};
 use crate::layout::{Learner, Roster};

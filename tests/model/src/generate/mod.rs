@@ -4,7 +4,11 @@
 
 pub mod acceptor;
 pub mod damage;
+pub mod leader;
 pub mod learner;
+pub mod lines;
+pub mod propose;
+pub mod run;
 pub mod viewchange;
 
 use crate::layout::Roster;

@@ -1,26 +1,21 @@
 //! Random calls of the view change.
 
-use super::damage::*;
+use super::run::*;
 use super::*;
-use crate::frames::{encode, Fields, SUSPICION, VIEWCHANGE};
+use crate::frames::{Fields, SUSPICION, VIEWCHANGE};
 use crate::layout::ViewRecord;
 use crate::viewchange::enough_to_suspect;
 
-/// One call of the step. Only the record after a call to keep is carried over.
+/// One call of the step.
 pub struct Call {
-    pub roster: Roster,
-    pub own: u8,
+    pub given: Given,
     pub views: ViewRecord,
     pub line: Vec<u8>,
-    pub out: Vec<u8>,
-    pub keep: bool,
 }
 
 /// A run of calls.
 pub struct Scenario {
-    pub roster: Roster,
-    pub own: u8,
-    pub length: usize,
+    pub run: Run,
     /// For broken lines that carry commands.
     pool: Vec<Command>,
 }
@@ -28,24 +23,17 @@ pub struct Scenario {
 impl Scenario {
     /// A site of some roster.
     pub fn new(rng: &mut Rng) -> Scenario {
-        let roster = good_roster(rng);
-        let own = rng.below(usize::from(roster.n)) as u8;
-        let pool = pool(rng, false, false);
-        Scenario { roster, own, length: rng.between(10, 60), pool }
+        Scenario { run: Run::new(rng, 10, 60), pool: pool(rng, false, false) }
     }
 
     /// f+1.
     fn suspecting(&self) -> usize {
-        enough_to_suspect(&self.roster) as usize
+        enough_to_suspect(&self.run.roster) as usize
     }
 
     /// The record the run starts from: fresh, or any that may be lent.
     pub fn start(&self, rng: &mut Rng) -> ViewRecord {
-        if rng.percent(45) {
-            ViewRecord::fresh()
-        } else {
-            self.lent(rng)
-        }
+        Run::start(rng, 45, ViewRecord::fresh(), |rng| self.lent(rng))
     }
 
     /// A record with no mask bit at N or above, likely or not.
@@ -69,18 +57,18 @@ impl Scenario {
         };
         ViewRecord {
             view,
-            suspicions: lent_mask(rng, &self.roster, self.suspecting()),
+            suspicions: lent_mask(rng, &self.run.roster, self.suspecting()),
             target,
-            changes: lent_mask(rng, &self.roster, quorum(&self.roster) as usize),
+            changes: lent_mask(rng, &self.run.roster, quorum(&self.run.roster) as usize),
         }
     }
 
     /// A SUSPICION of the current view, often from a site not yet counted.
     fn suspicion(&self, rng: &mut Rng, views: &ViewRecord) -> Fields {
         let sender = if rng.percent(12) {
-            self.own
+            self.run.own
         } else {
-            site_beyond(rng, &self.roster, views.suspicions, 70)
+            site_beyond(rng, &self.run.roster, views.suspicions, 70)
         };
         Fields { view: views.view, ..Fields::of(SUSPICION, sender) }
     }
@@ -98,81 +86,56 @@ impl Scenario {
             _ => above.saturating_add(1),
         };
         let sender = if rng.percent(12) {
-            self.own
+            self.run.own
         } else {
-            site_beyond(rng, &self.roster, views.changes, 70)
+            site_beyond(rng, &self.run.roster, views.changes, 70)
         };
-        let mask = good_mask(rng, &self.roster, self.suspecting());
+        let mask = good_mask(rng, &self.run.roster, self.suspecting());
         Fields { view, mask, ..Fields::of(VIEWCHANGE, sender) }
     }
 
     /// The next call, in the record that the run has come to.
     pub fn call(&mut self, rng: &mut Rng, views: &ViewRecord) -> Call {
-        let mut call = Call {
-            roster: self.roster,
-            own: self.own,
-            views: *views,
-            line: Vec::new(),
-            out: good_buffer(rng),
-            keep: true,
-        };
+        let mut call = Call { given: self.run.given(rng), views: *views, line: Vec::new() };
         if rng.percent(12) {
             call.views = self.lent(rng);
-            call.keep = rng.percent(50);
+            call.given.keep = rng.percent(50);
         }
-        let mut fields = if rng.percent(42) {
+        let fields = if rng.percent(42) {
             self.suspicion(rng, &call.views)
         } else {
             self.view_change(rng, &call.views)
         };
-        let faults = match rng.below(100) {
-            0..=64 => 0,
-            65..=92 => 1,
-            93..=97 => 2,
-            _ => 3,
-        };
-        let mut break_line = false;
-        for _ in 0..faults {
-            self.fault(rng, &mut call, &mut fields, &mut break_line);
+        let mut draft = Draft::new(fields, Vec::new());
+        for _ in 0..faults(rng, 65) {
+            self.fault(rng, &mut call, &mut draft);
         }
-        call.line = if break_line {
-            broken_line(rng, &fields, &[], &self.pool)
-        } else {
-            encode(&fields, &[])
-        };
+        call.line = draft.line(rng, &self.pool);
         call
     }
 
     /// One fault.
-    fn fault(&self, rng: &mut Rng, call: &mut Call, fields: &mut Fields, break_line: &mut bool) {
-        match rng.below(10) {
-            0 => fields.sender = bad_own(rng, &self.roster),
+    fn fault(&self, rng: &mut Rng, call: &mut Call, draft: &mut Draft) {
+        let fields = &mut draft.fields;
+        let at = rng.below(10);
+        match at {
+            0 => fields.sender = bad_own(rng, &self.run.roster),
             1 | 2 => fields.view = wrong_view(rng, &call.views, fields.view),
             3 | 4 if fields.kind == VIEWCHANGE => {
-                fields.mask = bad_mask(rng, &self.roster, self.suspecting());
+                fields.mask = bad_mask(rng, &self.run.roster, self.suspecting());
             }
-            3..=5 => *break_line = true,
-            6 => {
-                call.roster = other_roster(rng, &self.roster);
-                call.keep = false;
-            }
-            7 => call.own = bad_own(rng, &self.roster),
-            8 => call.out = short_buffer(rng),
+            3..=5 => draft.break_line = true,
+            6..=8 => self.run.spoil(rng, &mut call.given, at - 6),
             _ => {
                 self.damage(rng, &mut call.views);
-                call.keep = false;
+                call.given.keep = false;
             }
         }
-        call.keep &= call.roster == self.roster && call.own == self.own;
     }
 
     /// A bit at N or above in one of the record's masks, if there is room.
     fn damage(&self, rng: &mut Rng, views: &mut ViewRecord) {
-        let n = usize::from(self.roster.n);
-        if n == 16 {
-            return;
-        }
-        let above = 1 << if rng.percent(50) { n } else { rng.between(n, 15) };
+        let Some(above) = self.run.bit_above(rng) else { return };
         if rng.percent(50) {
             views.suspicions |= above;
         } else {

@@ -114,15 +114,16 @@ fn tally_open(tally: &mut Tally, call: &Call, frame: &Frame, sent: usize) {
 
 /// Do N-f entries equal the site's own after the call?
 fn own_has_quorum(call: &Call, after: &Acceptor) -> bool {
-    let own = entry(&after.verified, usize::from(call.own));
-    equal_entries(&call.roster, &after.verified, own).count_ones() >= quorum(&call.roster)
+    let own = entry(&after.verified, usize::from(call.given.own));
+    equal_entries(&call.given.roster, &after.verified, own).count_ones()
+        >= quorum(&call.given.roster)
 }
 
 /// Counts the cases of an accepted P2A.
 fn tally_phase_two(tally: &mut Tally, call: &Call, h: &[Command], after: &Acceptor) {
     let s = &call.state;
     let held = commands(&s.held);
-    let before = entry(&s.verified, usize::from(call.own));
+    let before = entry(&s.verified, usize::from(call.given.own));
     tally.count(match (s.signed != 0, extends(h, held)) {
         (true, _) => SIGNED[2],
         (false, true) => SIGNED[0],
@@ -145,7 +146,7 @@ fn tally_propose(tally: &mut Tally, call: &Call, frame: &Frame, after: &Acceptor
     tally.count_if(!is_canonical(&frame.first), PROPOSED[3]);
     tally.count_if(!result.starts_with(held), PROPOSED[4]);
     tally.count_if(result.len() == LIMIT, PROPOSED[5]);
-    tally.count_if(frame.fields.sender >= call.roster.n, PROPOSED[6]);
+    tally.count_if(frame.fields.sender >= call.given.roster.n, PROPOSED[6]);
     tally.count_if(own_has_quorum(call, after), PROPOSED[7]);
 }
 
@@ -153,8 +154,8 @@ fn tally_propose(tally: &mut Tally, call: &Call, frame: &Frame, after: &Acceptor
 fn tally_verify(tally: &mut Tally, call: &Call, frame: &Frame, want: &AcceptorOutcome) {
     let (s, h) = (&call.state, &frame.first[..]);
     let before = entry(&s.verified, usize::from(frame.fields.sender));
-    let mask = equal_entries(&call.roster, &want.state.verified, h);
-    let (ones, least) = (mask.count_ones(), quorum(&call.roster));
+    let mask = equal_entries(&call.given.roster, &want.state.verified, h);
+    let (ones, least) = (mask.count_ones(), quorum(&call.given.roster));
     if !extends(h, before) {
         tally.count(VERIFIED[3]);
         return tally.count_if(ones >= least, VERIFIED[4]);
@@ -173,7 +174,7 @@ fn tally_verify(tally: &mut Tally, call: &Call, frame: &Frame, want: &AcceptorOu
         tally.count(VERIFIED[9]);
     } else {
         tally.count(if ones == least { VERIFIED[6] } else { VERIFIED[7] });
-        tally.count_if(frame.fields.sender == call.own && before == h, VERIFIED[8]);
+        tally.count_if(frame.fields.sender == call.given.own && before == h, VERIFIED[8]);
         tally.count_if(proven == h, VERIFIED[10]);
         tally.count_if(proven != h && !proven.is_empty(), VERIFIED[12]);
         tally.count_if(s.fast != 0, VERIFIED[13]);
@@ -191,9 +192,9 @@ fn list_faults(s: &Acceptor) -> Vec<String> {
 
 /// Counts the case of CONFIG, if there is but one reason for it.
 fn tally_config(tally: &mut Tally, call: &Call) {
-    let (r, s) = (&call.roster, &call.state);
+    let (r, s) = (&call.given.roster, &call.state);
     let mut reasons = list_faults(s);
-    if call.out.len() < ROOM {
+    if call.given.out.len() < ROOM {
         reasons.push(REFUSALS[2].to_string());
     }
     if !roster_valid(r) {
@@ -202,7 +203,7 @@ fn tally_config(tally: &mut Tally, call: &Call) {
     }
     let entry_outside = (usize::from(r.n)..SITES).any(|i| s.verified.counts[i] != 0);
     let more = [
-        (call.own >= r.n, REFUSALS[1]),
+        (call.given.own >= r.n, REFUSALS[1]),
         (bit_outside(r, call.views.suspicions), REFUSALS[3]),
         (bit_outside(r, call.views.changes), REFUSALS[4]),
         (bit_outside(r, s.certificate), REFUSALS[5]),
@@ -218,7 +219,7 @@ fn tally_config(tally: &mut Tally, call: &Call) {
 fn tally_sender(tally: &mut Tally, call: &Call, frame: &Frame) {
     tally.count(if frame.fields.kind == PROPOSE {
         REFUSALS[8]
-    } else if frame.fields.sender >= call.roster.n {
+    } else if frame.fields.sender >= call.given.roster.n {
         REFUSALS[7]
     } else {
         REFUSALS[9]
@@ -295,7 +296,7 @@ impl Role for AcceptorRole {
     fn begin(rng: &mut Rng) -> (Scenario, usize, Acceptor) {
         let scenario = Scenario::new(rng);
         let state = scenario.start(rng);
-        let length = scenario.length;
+        let length = scenario.run.length;
         (scenario, length, state)
     }
 
@@ -304,14 +305,15 @@ impl Role for AcceptorRole {
     }
 
     fn model(call: &Call) -> Self::Outcome {
-        let mut out = guarded(&call.out);
-        let lent = &mut out[..call.out.len()];
-        let outcome = step(&call.roster, call.own, &call.views, &call.state, &call.line, lent);
+        let mut out = guarded(&call.given.out);
+        let lent = &mut out[..call.given.out.len()];
+        let outcome =
+            step(&call.given.roster, call.given.own, &call.views, &call.state, &call.line, lent);
         (outcome, out)
     }
 
     fn kept(call: &Call, outcome: Self::Outcome) -> Option<Acceptor> {
-        call.keep.then_some(outcome.0.state)
+        call.given.keep.then_some(outcome.0.state)
     }
 
     fn answers() -> &'static [u8] {
@@ -351,7 +353,7 @@ impl Role for AcceptorRole {
         differ_state(&want.0.state, &got.0.state);
         differ_buffer(&want.1, &got.1);
         println!("the call:");
-        println!("roster: N={}, f={}; own number {}", call.roster.n, call.roster.f, call.own);
+        print_given(&call.given);
         print_record(&call.views);
         let s = &call.state;
         println!(
@@ -362,7 +364,6 @@ impl Role for AcceptorRole {
         print_history("proven", &s.proven);
         print_table("entry", &s.verified);
         print_line(&call.line);
-        println!("buffer lent, {} bytes, in hex: {}", call.out.len(), hex(&call.out));
     }
 }
 

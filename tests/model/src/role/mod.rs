@@ -1,9 +1,11 @@
 //! The roles as the driver needs them, and what their reports share.
 
 pub mod acceptor;
+pub mod leader;
 pub mod learner;
 pub mod viewchange;
 
+use crate::generate::run::Given;
 use crate::layout::{History, Table, ViewRecord};
 use crate::rules::LIMIT;
 
@@ -16,6 +18,12 @@ fn hex(bytes: &[u8]) -> String {
 fn print_line(line: &[u8]) {
     println!("line, {} bytes, in hex: {}", line.len(), hex(line));
     println!("line as text: {}", line.escape_ascii());
+}
+
+/// Prints what the host gave to a call.
+fn print_given(given: &Given) {
+    println!("roster: N={}, f={}; own number {}", given.roster.n, given.roster.f, given.own);
+    println!("buffer lent, {} bytes, in hex: {}", given.out.len(), hex(&given.out));
 }
 
 /// Prints a list with all its words, unless it is empty and all are 0.

@@ -60,7 +60,7 @@ const REFUSALS: [&str; 15] = [
 fn tally_suspicion(tally: &mut Tally, call: &Call, f: &Fields) {
     let views = &call.views;
     let ones = (views.suspicions | bit(f.sender)).count_ones();
-    let enough = enough_to_suspect(&call.roster);
+    let enough = enough_to_suspect(&call.given.roster);
     tally.count(match (views.target != 0, ones < enough) {
         (false, true) => SUSPICIONS[0],
         (false, false) => SUSPICIONS[if ones == enough { 1 } else { 2 }],
@@ -68,7 +68,7 @@ fn tally_suspicion(tally: &mut Tally, call: &Call, f: &Fields) {
         (true, false) => SUSPICIONS[4],
     });
     tally.count_if(views.suspicions & bit(f.sender) != 0, SUSPICIONS[5]);
-    tally.count_if(f.sender == call.own, SUSPICIONS[6]);
+    tally.count_if(f.sender == call.given.own, SUSPICIONS[6]);
     tally.count_if(views.view == u32::MAX, SUSPICIONS[7]);
     let sets_target = views.target == 0 && ones >= enough;
     tally.count_if(sets_target && views.view == u32::MAX - 1, SUSPICIONS[8]);
@@ -77,7 +77,7 @@ fn tally_suspicion(tally: &mut Tally, call: &Call, f: &Fields) {
 /// Counts the cases of an accepted VIEWCHANGE.
 fn tally_change(tally: &mut Tally, call: &Call, f: &Fields) {
     let views = &call.views;
-    let own = f.sender == call.own;
+    let own = f.sender == call.given.own;
     if f.view != views.target {
         tally.count(if views.target == 0 { CHANGES[0] } else { CHANGES[1] });
         tally.count_if(own, CHANGES[2]);
@@ -87,27 +87,27 @@ fn tally_change(tally: &mut Tally, call: &Call, f: &Fields) {
     let there = views.changes & bit(f.sender) != 0;
     let ones = (views.changes | bit(f.sender)).count_ones();
     tally.count_if(own, CHANGES[6]);
-    if ones < quorum(&call.roster) {
+    if ones < quorum(&call.given.roster) {
         tally.count(if there { CHANGES[5] } else { CHANGES[4] });
         return;
     }
-    tally.count(if ones == quorum(&call.roster) { CHANGES[7] } else { CHANGES[8] });
+    tally.count(if ones == quorum(&call.given.roster) { CHANGES[7] } else { CHANGES[8] });
     tally.count_if(there, CHANGES[9]);
-    tally.count_if(leads(&call.roster, call.own, f.view), CHANGES[10]);
+    tally.count_if(leads(&call.given.roster, call.given.own, f.view), CHANGES[10]);
     tally.count_if(f.view == u32::MAX, CHANGES[11]);
 }
 
 /// Counts the case of CONFIG, if there is but one reason for it.
 fn tally_config(tally: &mut Tally, call: &Call) {
-    let r = &call.roster;
+    let r = &call.given.roster;
     if !roster_valid(r) {
         // The rest is read by N, so only figures without a reading count.
-        let rest_good = call.out.len() >= ROOM;
+        let rest_good = call.given.out.len() >= ROOM;
         return tally.count_if(rest_good, REFUSALS[0]);
     }
     let reasons = [
-        call.own >= r.n,
-        call.out.len() < ROOM,
+        call.given.own >= r.n,
+        call.given.out.len() < ROOM,
         bit_outside(r, call.views.suspicions),
         bit_outside(r, call.views.changes),
     ];
@@ -135,8 +135,8 @@ fn tally_stale(tally: &mut Tally, call: &Call, f: &Fields) {
 
 /// Counts the cases of PROOF.
 fn tally_proof(tally: &mut Tally, call: &Call, f: &Fields) {
-    let enough = enough_to_suspect(&call.roster);
-    let below = (0..call.roster.n).filter(|&i| f.mask & bit(i) != 0).count() as u32;
+    let enough = enough_to_suspect(&call.given.roster);
+    let below = (0..call.given.roster.n).filter(|&i| f.mask & bit(i) != 0).count() as u32;
     tally.count(if f.mask.count_ones() < enough {
         REFUSALS[10]
     } else if below >= enough {
@@ -149,15 +149,15 @@ fn tally_proof(tally: &mut Tally, call: &Call, f: &Fields) {
 /// Counts the cases of FULL.
 fn tally_full(tally: &mut Tally, call: &Call, f: &Fields) {
     let ones = (call.views.suspicions | bit(f.sender)).count_ones();
-    let exact = ones == enough_to_suspect(&call.roster);
+    let exact = ones == enough_to_suspect(&call.given.roster);
     tally.count(if exact { REFUSALS[13] } else { REFUSALS[14] });
 }
 
 /// Would the frame be accepted from another sender?
 fn but_for_sender(call: &Call, f: &Fields) -> bool {
     let line = frames::encode(&Fields { sender: 0, ..f.clone() }, &[]);
-    let mut out = call.out.clone();
-    step(&call.roster, call.own, &call.views, &line, &mut out).answer == ACCEPTED
+    let mut out = call.given.out.clone();
+    step(&call.given.roster, call.given.own, &call.views, &line, &mut out).answer == ACCEPTED
 }
 
 impl Role for ViewChangeRole {
@@ -173,7 +173,7 @@ impl Role for ViewChangeRole {
     fn begin(rng: &mut Rng) -> (Scenario, usize, ViewRecord) {
         let scenario = Scenario::new(rng);
         let state = scenario.start(rng);
-        let length = scenario.length;
+        let length = scenario.run.length;
         (scenario, length, state)
     }
 
@@ -182,14 +182,14 @@ impl Role for ViewChangeRole {
     }
 
     fn model(call: &Call) -> Self::Outcome {
-        let mut out = guarded(&call.out);
-        let lent = &mut out[..call.out.len()];
-        let outcome = step(&call.roster, call.own, &call.views, &call.line, lent);
+        let mut out = guarded(&call.given.out);
+        let lent = &mut out[..call.given.out.len()];
+        let outcome = step(&call.given.roster, call.given.own, &call.views, &call.line, lent);
         (outcome, out)
     }
 
     fn kept(call: &Call, outcome: Self::Outcome) -> Option<ViewRecord> {
-        call.keep.then_some(outcome.0.views)
+        call.given.keep.then_some(outcome.0.views)
     }
 
     fn answers() -> &'static [u8] {
@@ -228,9 +228,8 @@ impl Role for ViewChangeRole {
         differ_record(&want.0.views, &got.0.views);
         differ_buffer(&want.1, &got.1);
         println!("the call:");
-        println!("roster: N={}, f={}; own number {}", call.roster.n, call.roster.f, call.own);
+        print_given(&call.given);
         print_record(&call.views);
         print_line(&call.line);
-        println!("buffer lent, {} bytes, in hex: {}", call.out.len(), hex(&call.out));
     }
 }

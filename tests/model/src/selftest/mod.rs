@@ -3,6 +3,7 @@
 //! over a few commands.
 
 mod acceptor;
+mod leader;
 mod learner;
 mod viewchange;
 
@@ -33,6 +34,7 @@ pub fn run() {
     learner::run();
     viewchange::run();
     acceptor::run();
+    leader::run();
 }
 
 /// The document's sample histories.

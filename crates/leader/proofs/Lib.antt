@@ -1,0 +1,2 @@
+-- What the proofs of `leader` share.
+pub mod Calls

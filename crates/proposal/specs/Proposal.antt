@@ -1,0 +1,55 @@
+-- The leader's proposal, made of the reports and of what is pending, as document 01, "Leader", words it.
+use mathlib.Core.Path.{_≡_}
+use mathlib.Core.Bool.{cond}
+use mathlib.Core.List.{List, [], _∷_}
+use Prim.Native.Nat.{ℕ, zero, suc, _≤_}
+use lib.Dec.{ltb}
+use lib.ListN.{length, take}
+use Rattle.roster.specs.Mask.{bit}
+use Rattle.history.specs.History.{canonical}
+use Rattle.history.specs.Words.{limit}
+use Rattle.merge.specs.Merge.{appended}
+use Rattle.merge.specs.Appending.{holds}
+use Rattle.table.specs.Table.{row}
+
+-- the history of site i's report in a table's words and counts; none where the site is not marked as one that reported
+unfoldable pub report : List ℕ → List ℕ → ℕ → ℕ → List ℕ
+report words counts reported i = cond (bit reported i) (row words counts i) []
+
+-- the longer of two histories, the first of two equally long ones
+unfoldable pub longer : List ℕ → List ℕ → List ℕ
+longer g h = cond (ltb (length g) (length h)) h g
+
+-- "the longest proven history (of equals, the lowest site's)": of those that f gives of the sites below n
+unfoldable pub longestTo : ℕ → (ℕ → List ℕ) → List ℕ
+longestTo zero f = []
+longestTo (suc n) f = longer (longestTo n f) (f n)
+
+-- g with h appended, "skipping any proposer and serial present and stopping at 32"
+unfoldable pub extended : List ℕ → List ℕ → List ℕ
+extended g h = take limit (appended g h)
+
+-- "Then it appends the held histories by rising site": those that f gives of the sites below n
+unfoldable pub extendedTo : ℕ → (ℕ → List ℕ) → List ℕ → List ℕ
+extendedTo zero f g = g
+extendedTo (suc n) f g = extended (extendedTo n f g) (f n)
+
+-- what the leader puts together of n sites' reports, proven and held, "then pending"
+unfoldable pub gathered : ℕ → (ℕ → List ℕ) → (ℕ → List ℕ) → List ℕ → List ℕ
+gathered n proven held pending = extended (extendedTo n held (longestTo n proven)) pending
+
+-- the proposal: "the canonical result"
+unfoldable pub proposal : ℕ → (ℕ → List ℕ) → (ℕ → List ℕ) → List ℕ → List ℕ
+proposal n proven held pending = canonical (gathered n proven held pending)
+
+-- "Pending keeps what the result doesn't hold": the commands of `pending`, in their order, that h does not hold
+unfoldable pub remaining : List ℕ → List ℕ → List ℕ
+remaining [] h = []
+remaining (c ∷ pending) h = cond (holds h c) (remaining pending h) (c ∷ remaining pending h)
+
+-- the first n words are these commands, at most 32 of them
+pub record Gathered (words : List ℕ) (n : ℕ) (h : List ℕ) : Type 0 where
+  pub length-is : length words ≡ limit
+  pub count : n ≡ length h
+  pub words-are : take n words ≡ h
+  pub short : n ≤ limit
