@@ -5,8 +5,8 @@ use mathlib.Core.List.{List, []}
 use Prim.Native.Nat.{ℕ, _^_, _≤_, _<_}
 use native.Mathlib.Nat.{lt-of-lt-of-le}
 use native.Mathlib.Omega.{arith}
-use borrow.Author.Tests.{le-leb, leb-false, ltb-true, ltb-false, not-true, not-false}
-use lib.Dec.{ltb, lit<}
+use borrow.Author.Tests.{le-leb, leb-false, ltb-false, not-true, not-false}
+use lib.Dec.{lit<}
 use lib.ListN.{length}
 use lib.Pow.{pow-mono, pow-pos}
 use Rattle.roster.specs.declared.Roster.{Roster}
@@ -34,15 +34,13 @@ use Rattle.table.specs.Table.{validTable}
 use Rattle.table.specs.ValidLaws.{valid-stored, valid-empty}
 use Rattle.refusal.specs.declared.Refusal.{Refusal}
 use Rattle.frame.specs.declared.Frame.{Frame}
-use Rattle.frame.specs.Hex.{allFit}
 use Rattle.frame.specs.Kinds.{uses, isKind, unusedZero, zeroUnless}
-use Rattle.frame.specs.Format.{readingOf, malformed, proper, writable}
-use Rattle.frame.specs.FormatLaws.{Written, writable-is, found-writable}
+use Rattle.frame.specs.Format.{proper, writable}
 use Rattle.site.specs.declared.ViewRecord.{ViewRecord}
 use Rattle.site.specs.Site.{seated, validRecord}
 use Rattle.site.specs.SiteLaws.{seated-is}
 use Rattle.site.specs.Message.{message}
-use Rattle.site.specs.MessageLaws.{read-first-fits, message-writable}
+use Rattle.site.specs.MessageLaws.{read-first-fits, read-ballot-fits, message-writable}
 use Rattle.site.specs.Reply.{silent, sends, Reply, refuse, accept}
 use Rattle.site.specs.ReplyLaws.{silent-sends, sends-same, Sent, sent-line}
 use Rattle.acceptor.specs.declared.State.{State}
@@ -142,24 +140,6 @@ unfolding config
 is-configured r own room v s c =
     rw (c .seat, c .views, c .lent .held-valid, c .lent .proven-valid, c .lent .inside, c .lent .table-valid)
 
--- ---- the frame that was read
-
-module _ (line : List ℕ) (e : form line ≡ false) where
-  written : Written (received line)
-  unfolding malformed
-  written = writable-is (received line) (found-writable line taken (not-false (readingOf line taken .found) e))
-
-  -- its words and its ballot fit
-  carried-fits : EachFits (carried (received line))
-  carried-fits = read-first-fits line taken e
-
-  ballot-fits : received line .ballot .0 < 2 ^ 32
-  unfolding allFit
-  ballot-fits =
-      let m = received line in
-      let rest = and-right (ltb (m .view .0) (2 ^ 32)) _ (and-right (ltb (m .sender) 256) _ (and-right (ltb (m .kind) 256) _ (written .header-fits))) in
-      ltb-true (m .ballot .0) (2 ^ 32) (and-left (ltb (m .ballot .0) (2 ^ 32)) _ rest)
-
 -- ---- the history that is signed or stored
 
 -- a valid one of at most 32 commands, whose words fit where those that are held do
@@ -173,7 +153,7 @@ carried-checked : (s : State) (line : List ℕ) → form line ≡ false → wron
     → Checked s (carried (received line))
 carried-checked s line e p q =
     let h = carried (received line) in
-    record { short = carried-short line; valid = parts-valid (not-improper h (right-commands h p) q); words = λ w. carried-fits line e }
+    record { short = carried-short line; valid = parts-valid (not-improper h (right-commands h p) q); words = λ w. read-first-fits line taken e }
 
 -- the held history with the commands of a PROPOSE
 appended-checked : (s : State) (line : List ℕ) → form line ≡ false → validStored (s .held) ≡ true → wrong (carried (received line)) ≡ false
@@ -191,7 +171,7 @@ appended-checked s line e v p l =
             distinct = repeated-along order ∙ appended-distinct (heldOf s) h (was .distinct);
             in-order = canonical-is-canonical all;
           });
-      words = λ w. each-along (equivalent-sym order) (each-appended w (carried-fits line e));
+      words = λ w. each-along (equivalent-sym order) (each-appended w (read-first-fits line taken e));
     }
 
 -- ---- what a step replies
@@ -301,7 +281,7 @@ module _ {own : ℕ} {v : ViewRecord} {s : State} (f : Fits own v s) where
       let x = received line in
       let found : (y : Frame) → sends y ≡ sends m → writable y ≡ true → writable m ≡ true = λ y g w. subst (λ z. writable z ≡ true) (sends-same g) w in
       replies (λ o. o .sending ≡ sends m → writable m ≡ true) (λ _ g. absurd (silent-sends g))
-      (λ a g. found _ g (p1b-writable (r .n) (x .ballot) (configured-is r own room v s (a .configured) .lent) (ballot-fits line (a .framed))))
+      (λ a g. found _ g (p1b-writable (r .n) (x .ballot) (configured-is r own room v s (a .configured) .lent) (read-ballot-fits line taken (a .framed))))
       (λ a g. absurd (silent-sends g)) (λ a h c g. found _ g (verify-writable h c))
       (λ a p c g. found _ g (p2b-writable (carried x) _ c (certificate-lt r own room v s (verifiedBy s x) (carried x) (a .configured))))
       (λ a p c g. absurd (silent-sends g)) (λ g. absurd (silent-sends g)) (stepped r own room v s line) e
@@ -391,7 +371,7 @@ keeps-fits r own room v s line f =
     record {
       own-fits = f .own-fits;
       view-fits = f .view-fits;
-      ballot-fits = ballot-fits line (a .framed);
+      ballot-fits = read-ballot-fits line taken (a .framed);
       held-fits = f .held-fits;
       proven-fits = f .proven-fits;
       certified-fits = f .certified-fits;

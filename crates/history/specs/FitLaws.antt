@@ -2,7 +2,8 @@
 use mathlib.Core.List.{List, [], _∷_, _++_}
 use Prim.Native.Nat.{ℕ, zero, suc, _^_, _<_}
 use lib.Dec.{lit<}
-use lib.ListN.{take}
+use lib.ListN.{take, drop, set, replicate}
+use lib.Seq.{sets}
 use Rattle.history.specs.History.{Equivalent, same, swap, keep, trans}
 use Rattle.history.specs.Words.{padded}
 
@@ -11,11 +12,16 @@ pub data EachFits : List ℕ → Type 0 where
   none : EachFits []
   more : {c : ℕ} {l : List ℕ} → c < 2 ^ 64 → EachFits l → EachFits (c ∷ l)
 
--- so it is with a part of it, with two lists of such words, and with zeros after them
+-- so it is with a part of it, with two lists of such words, with zeros after them, and with such words stored in it
 pub each-take : (n : ℕ) {l : List ℕ} → EachFits l → EachFits (take n l)
 each-take zero w = none
 each-take (suc n) none = none
 each-take (suc n) (more p w) = more p (each-take n w)
+
+pub each-drop : (n : ℕ) {l : List ℕ} → EachFits l → EachFits (drop n l)
+each-drop zero w = w
+each-drop (suc n) none = none
+each-drop (suc n) (more p w) = each-drop n w
 
 pub each-append : {g h : List ℕ} → EachFits g → EachFits h → EachFits (g ++ h)
 each-append none w = w
@@ -26,6 +32,20 @@ unfolding padded
 each-padded zero w = none
 each-padded (suc n) none = more (lit< tt) (each-padded n none)
 each-padded (suc n) (more p w) = more p (each-padded n w)
+
+each-set : (i : ℕ) {c : ℕ} {l : List ℕ} → EachFits l → c < 2 ^ 64 → EachFits (set l i c)
+each-set i none q = none
+each-set zero (more p w) q = more q w
+each-set (suc i) (more p w) q = more p (each-set i w q)
+
+pub each-sets : (i : ℕ) {l h : List ℕ} → EachFits l → EachFits h → EachFits (sets l i h)
+each-sets i v none = v
+each-sets i v (more p w) = each-sets (suc i) (each-set i v p) w
+
+-- with zeros alone
+pub each-zeros : (n : ℕ) → EachFits (replicate n 0)
+each-zeros zero = none
+each-zeros (suc n) = more (lit< tt) (each-zeros n)
 
 -- and with the same words in another order
 pub each-along : {g h : List ℕ} → Equivalent g h → EachFits g → EachFits h

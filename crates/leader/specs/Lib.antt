@@ -2,3 +2,5 @@
 pub mod Leader
 pub mod Parts
 pub mod PartsLaws
+pub mod LeaderLaws
+pub mod LineLaws

@@ -1,10 +1,11 @@
 -- Appending in a buffer: what is in it then, and that a buffer of 64 has room for two histories of 32. What is appended fits eight bytes if both
--- lists do.
-use mathlib.Core.Path.{_≡_, sym, ap, _∙_}
-use mathlib.Core.Bool.{Bool, true, false, cond}
+-- lists do, and what a list holds it holds with more appended.
+use mathlib.Core.Path.{_≡_, refl, sym, ap, _∙_}
+use mathlib.Core.Bool.{Bool, true, false, cond, _||_, true≢false}
 use mathlib.Core.List.{List, [], _∷_, _++_}
 use Prim.Native.Nat.{ℕ, _≤_}
 use native.Mathlib.Omega.{arith}
+use lib.Dec.{eqb}
 use lib.ListN.{length, take, drop, length-append}
 use lib.Seq.{take-all, take-at, take-length, take-take, take-append-seam}
 use Rattle.history.specs.History.{present}
@@ -12,6 +13,7 @@ use Rattle.history.specs.Words.{padded}
 use Rattle.history.specs.WordsLaws.{length-padded, take-padded}
 use Rattle.history.specs.FitLaws.{EachFits, none, more, each-append}
 use Rattle.merge.specs.Merge.{appended, appendedIn}
+use Rattle.merge.specs.Appending.{holds}
 use Rattle.merge.specs.MergeLaws.{length-appended}
 
 -- appending keeps what was there in front
@@ -50,3 +52,23 @@ each-appended {g} v (more {c = c} p w) = each-appended (next (present c g)) w
     next : (b : Bool) → EachFits (cond b g (g ++ c ∷ []))
     next true = v
     next false = each-append v (more p none)
+
+-- what a list holds it holds with more behind it
+pub holds-append : (g x : List ℕ) (c : ℕ) → holds g c ≡ true → holds (g ++ x) c ≡ true
+unfolding holds
+holds-append [] x c e = absurd (true≢false (sym e))
+holds-append (d ∷ g) x c e = go (eqb c d) e (holds-append g x c)
+  where
+    go : (b : Bool) → (b || holds g c) ≡ true → (holds g c ≡ true → holds (g ++ x) c ≡ true) → (b || holds (g ++ x) c) ≡ true
+    go true e ih = refl
+    go false e ih = ih e
+
+-- and with a list appended
+pub appended-holds : (g h : List ℕ) (c : ℕ) → holds g c ≡ true → holds (appended g h) c ≡ true
+unfolding appended
+appended-holds g [] c e = e
+appended-holds g (d ∷ h) c e = appended-holds (cond (present d g) g (g ++ d ∷ [])) h c (next (present d g))
+  where
+    next : (b : Bool) → holds (cond b g (g ++ d ∷ [])) c ≡ true
+    next true = e
+    next false = holds-append g (d ∷ []) c e

@@ -1,9 +1,9 @@
 -- Laws of the proposal: which history is the longest, that the proposal is a valid history that extends it, and what stays pending.
 use mathlib.Core.Path.{_≡_, refl, sym, ap, _∙_, subst}
-use mathlib.Core.Logic.{_⊎_, ⊎-elim}
+use mathlib.Core.Logic.{⊎-elim}
 use mathlib.Core.Bool.{Bool, true, false, not, cond, _&&_, _||_}
 use mathlib.Core.List.{List, [], _∷_, _++_}
-use Prim.Native.Nat.{ℕ, zero, suc, _+_, _≤_, _<_}
+use Prim.Native.Nat.{ℕ, zero, suc, _≤_, _<_}
 use native.Mathlib.Omega.{arith}
 use borrow.Author.Tests.{lt-ltb, le-ltb, eqb-true, not-true}
 use lib.Dec.{eqb}
@@ -19,10 +19,11 @@ use Rattle.history.specs.CanonicalLaws.{canonical-equivalent, canonical-length,
 use Rattle.history.specs.OrderLaws.{or-left, or-right, repeated-along, all-valid-along}
 use Rattle.history.specs.ValidLaws.{valid-nil, valid-parts, parts-valid}
 use Rattle.history.specs.Words.{limit}
+use Rattle.history.specs.FitLaws.{EachFits, none as no-word, more as one-more, each-take, each-along}
 use Rattle.merge.specs.Merge.{appended}
 use Rattle.merge.specs.MergeLaws.{appended-all-valid, appended-distinct}
 use Rattle.merge.specs.Appending.{holds}
-use Rattle.merge.specs.AppendingLaws.{appended-front}
+use Rattle.merge.specs.AppendingLaws.{appended-front, each-appended}
 use Rattle.table.specs.Table.{row}
 use Rattle.table.specs.TableLaws.{length-row}
 use Rattle.proposal.specs.Proposal.{report, longer, longestTo, extended, extendedTo, gathered, proposal, remaining}
@@ -275,6 +276,17 @@ module _ (n : ℕ) (proven held : ℕ → List ℕ) (pending : List ℕ) where
         in-order = proposal-canonical n proven held pending;
       })
 
+-- ---- the words of the proposal
+
+-- words that fit eight bytes do so in any part, with such words appended, and in any order
+each-kept : Kept EachFits EachFits
+each-kept = record { cut = λ n w. each-take n w; appending = λ v w. each-appended v w; reordering = λ e w. each-along e w }
+
+-- the words of the proposal fit if all those do of which it is made
+pub proposal-fits : (n : ℕ) (proven held : ℕ → List ℕ) (pending : List ℕ) → ((i : ℕ) → i < n → EachFits (proven i))
+    → ((i : ℕ) → i < n → EachFits (held i)) → EachFits pending → EachFits (proposal n proven held pending)
+proposal-fits n proven held pending gs hs w = proposal-keeps each-kept n proven held pending (longest-keeps EachFits no-word n proven gs) hs w
+
 -- ---- what stays pending
 
 -- of the pending commands, just those stay that h does not hold
@@ -350,3 +362,13 @@ remaining-short (c ∷ pending) h = go (holds h c) (remaining-short pending h)
     go : (b : Bool) → length (remaining pending h) ≤ length pending → length (cond b (remaining pending h) (c ∷ remaining pending h)) ≤ suc (length pending)
     go true ih = omega arith
     go false ih = omega arith
+
+-- its words fit eight bytes if those pending do
+pub remaining-fits : {pending : List ℕ} (h : List ℕ) → EachFits pending → EachFits (remaining pending h)
+unfolding remaining
+remaining-fits h no-word = no-word
+remaining-fits h (one-more {c = c} p w) = go (holds h c) (remaining-fits h w)
+  where
+    go : {l : List ℕ} (b : Bool) → EachFits l → EachFits (cond b l (c ∷ l))
+    go true ih = ih
+    go false ih = one-more p ih

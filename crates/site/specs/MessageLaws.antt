@@ -1,23 +1,24 @@
--- Which messages have a line, and what their first list is; and the words of a frame that was read.
+-- Which messages have a line, and what their first list is; and that the numbers and words of a frame that was read fit their widths.
 use mathlib.Core.Path.{_≡_, refl, subst}
 use mathlib.Core.Bool.{true, false, false≢true}
 use mathlib.Core.List.{List, [], _∷_, _++_, append-nil}
 use Prim.Native.Nat.{ℕ, zero, suc, _^_, _≤_, _<_}
+use native.Mathlib.Nat.{not-suc-le-zero, le-of-suc-le-suc}
 use native.Mathlib.Omega.{arith}
 use borrow.Author.Tests.{ltb-true, lt-ltb, not-false}
-use lib.Dec.{ltb}
-use lib.ListN.{length, take, drop, length-append}
+use lib.Dec.{ltb, lit<}
+use lib.ListN.{length, getD, take, drop, length-append}
 use Rattle.roster.specs.declared.View.{View}
 use Rattle.roster.specs.declared.Ballot.{Ballot}
 use Rattle.roster.specs.SitesLaws.{and-left, and-right}
 use Rattle.history.specs.Words.{limit, padded}
 use Rattle.history.specs.WordsLaws.{length-padded, take-padded}
-use Rattle.history.specs.FitLaws.{EachFits, none, more, each-take, each-append, each-padded}
+use Rattle.history.specs.FitLaws.{EachFits, none, more, each-take, each-drop, each-append, each-padded}
 use Rattle.frame.specs.Hex.{allFit}
-use Rattle.frame.specs.Layout.{capacity, widths, first}
+use Rattle.frame.specs.Layout.{capacity, widths, values, first, second}
 use Rattle.frame.specs.Format.{readingOf, malformed, proper, allZero, writable}
 use Rattle.frame.specs.Format as format
-use Rattle.frame.specs.FormatLaws.{writable-is, is-writable, found-writable}
+use Rattle.frame.specs.FormatLaws.{Written, writable-is, is-writable, found-writable}
 use Rattle.site.specs.Message.{message}
 
 -- ---- words of eight bytes
@@ -37,16 +38,38 @@ fit-each zero (c ∷ l) e = absurd (false≢true e)
 fit-each (suc n) [] e = absurd (false≢true e)
 fit-each (suc n) (c ∷ l) e = more (ltb-true c (2 ^ 64) (and-left (ltb c (2 ^ 64)) _ e)) (fit-each n l (and-right (ltb c (2 ^ 64)) _ e))
 
+-- numbers that fit their widths, one by one
+fit-at : (ws xs : List ℕ) → allFit ws xs ≡ true → (k : ℕ) → k < length xs → getD xs k 0 < 256 ^ getD ws k 0
+unfolding allFit
+fit-at [] [] e k h = absurd (not-suc-le-zero h)
+fit-at [] (x ∷ xs) e k h = absurd (false≢true e)
+fit-at (w ∷ ws) [] e k h = absurd (false≢true e)
+fit-at (w ∷ ws) (x ∷ xs) e zero h = ltb-true x (256 ^ w) (and-left (ltb x (256 ^ w)) (allFit ws xs) e)
+fit-at (w ∷ ws) (x ∷ xs) e (suc k) h = fit-at ws xs (and-right (ltb x (256 ^ w)) (allFit ws xs) e) k (le-of-suc-le-suc h)
+
 -- those of a frame that FORM lets pass
 module _ (line : List ℕ) (kinds : ℕ) (e : malformed line kinds ≡ false) where
-  pub read-words-fit : EachFits (readingOf line kinds .frame .words)
+  read-written : Written (readingOf line kinds .frame)
   unfolding malformed
-  read-words-fit =
-      let m = readingOf line kinds .frame in
-      fit-each capacity (m .words) (writable-is m (found-writable line kinds (not-false (readingOf line kinds .found) e)) .words-fit)
+  read-written = writable-is (readingOf line kinds .frame) (found-writable line kinds (not-false (readingOf line kinds .found) e))
+
+  pub read-words-fit : EachFits (readingOf line kinds .frame .words)
+  read-words-fit = fit-each capacity (readingOf line kinds .frame .words) (read-written .words-fit)
 
   pub read-first-fits : EachFits (first (readingOf line kinds .frame))
   read-first-fits = each-take (readingOf line kinds .frame .n) read-words-fit
+
+  pub read-second-fits : EachFits (second (readingOf line kinds .frame))
+  read-second-fits = each-take (readingOf line kinds .frame .m) (each-drop (readingOf line kinds .frame .n) read-words-fit)
+
+  pub read-view-fits : readingOf line kinds .frame .view .0 < 2 ^ 32
+  read-view-fits = fit-at widths (values (readingOf line kinds .frame)) (read-written .header-fits) 2 (lit< tt)
+
+  pub read-ballot-fits : readingOf line kinds .frame .ballot .0 < 2 ^ 32
+  read-ballot-fits = fit-at widths (values (readingOf line kinds .frame)) (read-written .header-fits) 3 (lit< tt)
+
+  pub read-mask-fits : readingOf line kinds .frame .mask < 2 ^ 16
+  read-mask-fits = fit-at widths (values (readingOf line kinds .frame)) (read-written .header-fits) 5 (lit< tt)
 
 -- ---- which messages have a line
 

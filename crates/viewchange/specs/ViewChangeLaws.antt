@@ -1,15 +1,15 @@
 -- One step of view change: its outcome, the frames that it sends, and what the record keeps.
 use mathlib.Core.Path.{_≡_, refl, sym, ap, _∙_, subst}
 use mathlib.Core.Logic.{_⊎_, inl, inr, ⊎-elim}
-use mathlib.Core.Bool.{Bool, true, false, _&&_, _||_, Bool·beq, false≢true}
-use mathlib.Core.List.{List, [], _∷_}
-use Prim.Native.Nat.{ℕ, zero, suc, _+_, _^_, _≤_, _<_}
-use native.Mathlib.Nat.{not-suc-le-zero, le-of-suc-le-suc, le-refl, le-of-lt}
+use mathlib.Core.Bool.{Bool, true, false, _&&_, _||_, Bool·beq}
+use mathlib.Core.List.{List, []}
+use Prim.Native.Nat.{ℕ, _+_, _^_, _≤_, _<_}
+use native.Mathlib.Nat.{le-refl, le-of-lt}
 use native.Mathlib.Omega.{arith}
-use borrow.Author.Tests.{leb-false, lt-leb, ltb-true, lt-ltb, eqb-true, ne-eqb, not-false}
+use borrow.Author.Tests.{leb-false, lt-leb, lt-ltb, eqb-true, ne-eqb, not-false}
 use lib.Count.{ones, onesIn}
-use lib.Dec.{leb, ltb, eqb, lit<}
-use lib.ListN.{length, getD}
+use lib.Dec.{leb, eqb, lit<}
+use lib.ListN.{length}
 use Rattle.roster.specs.declared.Roster.{Roster}
 use Rattle.roster.specs.Roster.{validRoster, quorum}
 use Rattle.roster.specs.RosterLaws.{valid-figures}
@@ -21,13 +21,13 @@ use Rattle.refusal.specs.declared.Refusal.{Refusal}
 use Rattle.refusal.specs.JudgedLaws.{GivenFirst, NoneHolds, passed, pass, Judgement, refused, accepts, judgement, rising}
 use Rattle.frame.specs.declared.Frame.{Frame}
 use Rattle.frame.specs.Hex.{allFit}
-use Rattle.frame.specs.Layout.{widths, values}
 use Rattle.frame.specs.Kinds.{uses, isKind, unusedZero, zeroUnless}
 use Rattle.frame.specs.Format.{frameOf, readingOf, malformed, proper, allZero, fits, writable}
-use Rattle.frame.specs.FormatLaws.{writable-is, found-taken, found-frame, found-writable}
+use Rattle.frame.specs.FormatLaws.{found-taken, found-frame}
 use Rattle.site.specs.declared.ViewRecord.{ViewRecord}
 use Rattle.site.specs.Site.{seated, validRecord, fresh}
 use Rattle.site.specs.SiteLaws.{Seated, seated-is, Inside, valid-inside, inside-valid, fresh-inside}
+use Rattle.site.specs.MessageLaws.{read-view-fits, read-mask-fits}
 use Rattle.site.specs.Reply.{silent, sends, Reply, refuse, accept}
 use Rattle.site.specs.ReplyLaws.{silent-sends, sends-same, Sent, sent-line}
 use Rattle.viewchange.specs.ViewChange.{
@@ -217,27 +217,6 @@ module _ (own view mask : ℕ) (a : own < 256) (b : view < 2 ^ 32) (c : mask < 2
   unfolding notice writable proper isKind uses unusedZero zeroUnless allZero fits allFit
   leader-writable = rw (lt-ltb own 256 a, lt-ltb view (2 ^ 32) b, lt-ltb mask (2 ^ 16) c)
 
--- numbers that fit their widths, one by one
-fit-at : (ws xs : List ℕ) → allFit ws xs ≡ true → (k : ℕ) → k < length xs → getD xs k 0 < 256 ^ getD ws k 0
-unfolding allFit
-fit-at [] [] e k h = absurd (not-suc-le-zero h)
-fit-at [] (x ∷ xs) e k h = absurd (false≢true e)
-fit-at (w ∷ ws) [] e k h = absurd (false≢true e)
-fit-at (w ∷ ws) (x ∷ xs) e zero h = ltb-true x (256 ^ w) (and-left (ltb x (256 ^ w)) (allFit ws xs) e)
-fit-at (w ∷ ws) (x ∷ xs) e (suc k) h = fit-at ws xs (and-right (ltb x (256 ^ w)) (allFit ws xs) e) k (le-of-suc-le-suc h)
-
--- so are those of a frame that was read
-module _ (line : List ℕ) (e : form line ≡ false) where
-  header-fits : allFit widths (values (received line)) ≡ true
-  unfolding malformed
-  header-fits = writable-is (received line) (found-writable line taken (not-false (readingOf line taken .found) e)) .header-fits
-
-  received-view : received line .view .0 < 2 ^ 32
-  received-view = fit-at widths (values (received line)) header-fits 2 (lit< tt)
-
-  received-mask : received line .mask < 2 ^ 16
-  received-mask = fit-at widths (values (received line)) header-fits 5 (lit< tt)
-
 -- the next view fits where FULL lets pass
 next-fits : (r : Roster) (v : ViewRecord) (m : Frame) → isSuspicion m ≡ true → sets r v m ≡ true → full r v m ≡ false → v .view .0 + 1 < 2 ^ 32
 unfolding full
@@ -258,7 +237,7 @@ module _ {own : ℕ} {v : ViewRecord} (f : Fits own v) where
       let x = received line in
       sends-each (λ m. writable m ≡ true)
       (λ a p q. change-writable own _ _ (f .own-fits) (next-fits r v x p q (a .within)) (suspected-fits x))
-      (λ a. change-writable own _ _ (f .own-fits) (received-view line (a .framed)) (received-mask line (a .framed)))
+      (λ a. change-writable own _ _ (f .own-fits) (read-view-fits line taken (a .framed)) (read-mask-fits line taken (a .framed)))
       (λ a. leader-writable own _ _ (f .own-fits) (f .target-fits) (changed-fits x)) (stepped r own room v line) h
 
 -- a step that sends has passed CONFIG, so there is room, and what is sent is the frame's line
@@ -311,7 +290,7 @@ keeps-fits r own room v line f =
     record {
       own-fits = f .own-fits;
       view-fits = f .view-fits;
-      target-fits = received-view line (a .framed);
+      target-fits = read-view-fits line taken (a .framed);
       suspicions-fit = f .suspicions-fit;
       changes-fit = with-fits (withSite 0 (m .sender)) own (with-fits 0 (m .sender) (lit< tt));
     })
