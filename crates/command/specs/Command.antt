@@ -53,11 +53,11 @@ unfoldable pub allValid : List ℕ → Bool
 allValid [] = true
 allValid (c ∷ h) = validCommand c && allValid h
 
--- COMMAND: "a command's fields are wrong, or in PROPOSE its proposer isn't the sender"
+-- COMMAND: "a command's fields are wrong"
 unfoldable pub wrong : List ℕ → Bool
 wrong h = not (allValid h)
 
--- whether each command of a list is by this proposer
+-- and "in PROPOSE its proposer isn't the sender": whether each command of a list is by this proposer
 unfoldable pub allBy : ℕ → List ℕ → Bool
 allBy p [] = true
 allBy p (c ∷ h) = eqb (proposer c) p && allBy p h

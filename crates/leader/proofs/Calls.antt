@@ -1,7 +1,7 @@
 -- What a call returns and leaves in the buffer, in the words of the definitions.
-use mathlib.Core.Path.{_≡_, refl, sym, ap, _∙_}
+use mathlib.Core.Path.{_≡_, ap, _∙_}
 use mathlib.Core.Bool.{Bool, true, false, not, cond, _&&_}
-use mathlib.Core.List.{List, []}
+use mathlib.Core.List.{List}
 use Prim.Native.Nat.{ℕ, min, _≤_}
 use native.Mathlib.Omega.{arith}
 use lib.Dec.{eqb}
@@ -24,13 +24,12 @@ use Rattle.frame.specs.declared.Frame.{Frame}
 use Rattle.frame.specs.declared.Reading.{Reading}
 use Rattle.frame.specs.Layout.{first, second}
 use Rattle.frame.specs.Format.{readingOf}
-use Rattle.site.specs.Message.{message}
 use Rattle.site.specs.Reply.{Reply, sendsIf, lengthSent, buffer}
 use Rattle.leader.specs.declared.State.{State}
 use Rattle.leader.specs.declared.Outcome.{Outcome}
 use Rattle.leader.specs.Leader as leader
-use Rattle.leader.specs.Leader.{taken, marksOf, step, returned, output, mayOpen, opening, openingReturned, openingOutput, outcome}
-use Rattle.leader.specs.Parts.{refused, invitation, inBallot, isAccepted, marked, entered, drafted, pendingAfter, answerIn, settled}
+use Rattle.leader.specs.Leader.{taken, marksOf, step, returned, output, mayOpen, inBallot, invitation, p2a, opening, openingReturned, openingOutput, outcome}
+use Rattle.leader.specs.Parts.{refused, isAccepted, reportedAfter, entered, drafted, pendingAfter, answerIn, settled}
 use Rattle.leader.specs.PartsLaws.{settled-step}
 
 -- ---- a frame that is answered
@@ -50,13 +49,13 @@ module _ (r : Roster) (own : ℕ) (s : State) (a : Answer) (m : Frame) (out : Li
   pub settle-done : (g h : List ℕ) (mask : ℕ) (t u : Table) (q : ℕ) (e : Bool) (d : History) (f : Frame) (v : View) (p : History) (n : ℕ) (l : List ℕ)
       → g ≡ first m
       → h ≡ second m
-      → mask ≡ marked (b && eqb (m .kind) 3) (s .reported) (m .sender)
+      → mask ≡ reportedAfter (b && eqb (m .kind) 3) (s .reported) (m .sender)
       → t ≡ entered (b && eqb (m .kind) 3) (s .proven) (m .sender) g
       → u ≡ entered (b && eqb (m .kind) 3) (s .held) (m .sender) h
       → q ≡ quorum r
       → e ≡ reaches mask q
       → d ≡ stored (drafted (r .n) ((b && eqb (m .kind) 3) && e) mask t u (commands (s .pending)))
-      → f ≡ message 5 own (s .view) (s .ballot) (record { 0 = 0 }) 0 (commands d) []
+      → f ≡ p2a own (s .view) (s .ballot) (commands d)
       → v ≡ cond (b && (not (eqb (m .kind) 3) && not (eqb (m .kind) 4))) (m .view) (s .view)
       → p ≡ pendingAfter (b && (not (eqb (m .kind) 3) && eqb (m .kind) 4)) ((b && eqb (m .kind) 3) && e) (s .pending) g (commands d)
       → (n ≡ lengthSent (sendsIf (not (eqb (d .count) 0)) f) out) × (l ≡ buffer (sendsIf (not (eqb (d .count) 0)) f) out)

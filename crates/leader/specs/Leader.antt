@@ -1,5 +1,5 @@
 -- The leader, as document 01, "Leader", words it: its refusals in their order, what an accepted frame does, and the opening of a ballot.
-use mathlib.Core.Bool.{Bool, true, false, not, cond, _&&_, _||_}
+use mathlib.Core.Bool.{Bool, not, cond, _&&_, _||_}
 use mathlib.Core.List.{List, [], _∷_}
 use Prim.Native.Nat.{ℕ}
 use lib.Dec.{leb, ltb, eqb}
@@ -18,7 +18,6 @@ use Rattle.merge.specs.Appending.{reuses, nothingNew}
 use Rattle.table.specs.declared.Table.{Table}
 use Rattle.table.specs.Table.{storedAt, emptyTable, validTable}
 use Rattle.proposal.specs.Proposal.{report, proposal, remaining}
-use Rattle.refusal.specs.declared.Refusal.{Refusal}
 use Rattle.refusal.specs.declared.Refusal.the-variants.{Config, Form, Sender, Stale, Proof, Command, History as Improper, Reused, Nothing, Full}
 use Rattle.refusal.specs.Rules.{Rule, _gives_, judged}
 use Rattle.frame.specs.declared.Frame.{Frame}
@@ -26,7 +25,7 @@ use Rattle.frame.specs.Layout.{first, second}
 use Rattle.frame.specs.Format.{readingOf, malformed}
 use Rattle.site.specs.Site.{seated, isSet}
 use Rattle.site.specs.Message.{message}
-use Rattle.site.specs.Reply.{Sending, silent, sends, Reply, refuse, accept, sendsIf, lengthSent, buffer}
+use Rattle.site.specs.Reply.{silent, sends, Reply, refuse, accept, sendsIf, lengthSent, buffer}
 use Rattle.leader.specs.declared.State.{State}
 use Rattle.leader.specs.declared.Marks.{Marks}
 use Rattle.leader.specs.declared.Outcome.{Outcome}
@@ -63,7 +62,7 @@ taken = 1048
 abbrev pub received : List ℕ → Frame
 received line = readingOf line taken .frame
 
--- the pending commands as a list, and what the checks read of a state beside them
+-- the pending commands as a list, and what the checks after CONFIG read of a state beside them
 abbrev pub pendingOf : State → List ℕ
 pendingOf s = commands (s .pending)
 
@@ -92,7 +91,7 @@ form line = malformed line taken
 unfoldable pub unproven : Roster → ℕ → Bool
 unproven r mask = beyond mask (r .n) || not (reaches mask (quorum r))
 
--- LEADER "needs view mod N its own number and a view above its own (else STALE), and N-f ones"
+-- LEADER "needs view mod N its own number and a view above its own (else STALE)"
 unfoldable pub leads : Roster → ℕ → Marks → View → Bool
 leads r own k view = eqb (leaderOf r view) own && ltb (k .view .0) (view .0)
 
@@ -176,12 +175,12 @@ reportIn s t = report (t .words) (t .counts) (s .reported)
 unfoldable pub proposed : Roster → State → List ℕ
 proposed r s = proposal (r .n) (reportIn s (s .proven)) (reportIn s (s .held)) (pendingOf s)
 
-abbrev pub p2a : ℕ → State → List ℕ → Frame
-p2a own s h = message 5 own (s .view) (s .ballot) (record { 0 = 0 }) 0 h []
+abbrev pub p2a : ℕ → View → Ballot → List ℕ → Frame
+p2a own view ballot h = message 5 own view ballot (record { 0 = 0 }) 0 h []
 
 -- "On report N-f": "If not empty, the canonical result goes out as P2A. Pending keeps what the result doesn't hold."
 abbrev pub proposing : ℕ → State → List ℕ → Reply State
-proposing own s h = accept (waiting s (remaining (pendingOf s) h)) (sendsIf (not (eqb (length h) 0)) (p2a own s h))
+proposing own s h = accept (waiting s (remaining (pendingOf s) h)) (sendsIf (not (eqb (length h) 0)) (p2a own (s .view) (s .ballot) h))
 
 unfoldable pub conclude : Roster → ℕ → State → Reply State
 conclude r own s = cond (reaches (s .reported) (quorum r)) (proposing own s (proposed r s)) (accept s silent)
@@ -206,25 +205,25 @@ abbrev pub openingRules : Roster → ℕ → ℕ → State → Ballot → List R
 openingRules r own room s ballot = config r own room s gives Config ∷ not (mayOpen r own (marksOf s) ballot) gives Stale ∷ []
 
 -- "FAST or P1A goes out, and reports are forgotten"
-abbrev pub inBallot : State → Ballot → ℕ → State
-inBallot s ballot fast =
+abbrev pub inBallot : View → Ballot → ℕ → History → State
+inBallot view ballot fast pending =
     record {
-      view = s .view;
+      view = view;
       ballot = ballot;
       classic = cond (isSet fast) 0 1;
-      pending = s .pending;
+      pending = pending;
       reported = 0;
       proven = emptyTable;
       held = emptyTable;
     }
 
-abbrev pub invitation : ℕ → State → Ballot → ℕ → Frame
-invitation own s ballot fast = message (cond (isSet fast) 2 1) own (s .view) ballot (record { 0 = 0 }) 0 [] []
+abbrev pub invitation : ℕ → View → Ballot → ℕ → Frame
+invitation own view ballot fast = message (cond (isSet fast) 2 1) own view ballot (record { 0 = 0 }) 0 [] []
 
 -- what the call does; `fast` is a flag: 0 opens a classic ballot
 unfoldable pub opening : Roster → ℕ → ℕ → State → Ballot → ℕ → Reply State
 opening r own room s ballot fast =
-    judged (refuse s) (accept (inBallot s ballot fast) (sends (invitation own s ballot fast))) (openingRules r own room s ballot)
+    judged (refuse s) (accept (inBallot (s .view) ballot fast (s .pending)) (sends (invitation own (s .view) ballot fast))) (openingRules r own room s ballot)
 
 -- ---- of a call with this buffer lent to it: what it returns, and the buffer that it leaves
 

@@ -43,8 +43,6 @@ use Rattle.proposal.specs.ProposalLaws.{
   proposal-extends,
   proposal-valid,
   remaining-holds,
-  remaining-all-valid,
-  remaining-distinct,
   remaining-short,
   kept-or-proposed,
 }
@@ -65,7 +63,6 @@ use Rattle.site.specs.ReplyLaws.{silent-sends, sends-same}
 use Rattle.site.specs.MessageLaws.{first-is}
 use Rattle.leader.specs.declared.State.{State}
 use Rattle.leader.specs.Leader.{
-  fresh,
   Kind,
   P1B,
   PROPOSE,
@@ -91,7 +88,6 @@ use Rattle.leader.specs.Leader.{
   reportIn,
   proposed,
   p2a,
-  proposing,
   conclude,
   accepted,
   step,
@@ -216,7 +212,7 @@ rules-rise r own room s line = go (kindOf (received line .kind))
 pub record Opens (r : Roster) (own room : ℕ) (s : State) (ballot : Ballot) (fast : ℕ) : Type 0 where
   pub configured : config r own room s ≡ false
   pub timely : not (mayOpen r own (marksOf s) ballot) ≡ false
-  pub outcome : opening r own room s ballot fast ≡ accept (inBallot s ballot fast) (sends (invitation own s ballot fast))
+  pub outcome : opening r own room s ballot fast ≡ accept (inBallot (s .view) ballot fast (s .pending)) (sends (invitation own (s .view) ballot fast))
 
 pub data Opened (r : Roster) (own room : ℕ) (s : State) (ballot : Ballot) (fast : ℕ) : Type 0 where
   stays : (e : Refusal) → GivenFirst e (openingRules r own room s ballot) → opening r own room s ballot fast ≡ refuse s e
@@ -226,9 +222,9 @@ pub data Opened (r : Roster) (own room : ℕ) (s : State) (ballot : Ballot) (fas
 pub opened : (r : Roster) (own room : ℕ) (s : State) (ballot : Ballot) (fast : ℕ) → Opened r own room s ballot fast
 unfolding opening
 opened r own room s ballot fast =
-    go (judgement (refuse s) (accept (inBallot s ballot fast) (sends (invitation own s ballot fast))) (openingRules r own room s ballot))
+    go (judgement (refuse s) (accept (inBallot (s .view) ballot fast (s .pending)) (sends (invitation own (s .view) ballot fast))) (openingRules r own room s ballot))
   where
-    go : Judgement (refuse s) (accept (inBallot s ballot fast) (sends (invitation own s ballot fast))) (openingRules r own room s ballot)
+    go : Judgement (refuse s) (accept (inBallot (s .view) ballot fast (s .pending)) (sends (invitation own (s .view) ballot fast))) (openingRules r own room s ballot)
         → Opened r own room s ballot fast
     go (refused e g o) = stays e g o
     go (accepts (pass a (pass b passed)) o) = opens (record { configured = a; timely = b; outcome = o })
@@ -248,7 +244,7 @@ concluded r s = waiting s (remaining (pendingOf s) (proposed r s))
 pub data Effect (r : Roster) (own : ℕ) (s : State) : Reply State → Type 0 where
   stores : reaches (s .reported) (quorum r) ≡ false → Effect r own s (accept s silent)
   proposes : reaches (s .reported) (quorum r) ≡ true → 0 < length (proposed r s)
-      → Effect r own s (accept (concluded r s) (sends (p2a own s (proposed r s))))
+      → Effect r own s (accept (concluded r s) (sends (p2a own (s .view) (s .ballot) (proposed r s))))
   ends : reaches (s .reported) (quorum r) ≡ true → proposed r s ≡ [] → Effect r own s (accept (concluded r s) silent)
 
 no-commands : (h : List ℕ) → eqb (length h) 0 ≡ true → h ≡ []
@@ -270,18 +266,18 @@ effect r own s = go (reaches (s .reported) (quorum r)) (eqb (length (proposed r 
 module _ {r : Roster} {own room : ℕ} {s : State} {line : List ℕ} (P : Reply State → Type 0)
     (on-refusal : (e : Refusal) → P (refuse s e))
     (on-store : Reports r own room s line → P (accept (reporting s (received line)) silent))
-    (on-propose : Reports r own room s line → reaches (reporting s (received line) .reported) (quorum r) ≡ true
+    (on-p2a : Reports r own room s line → reaches (reporting s (received line) .reported) (quorum r) ≡ true
     → 0 < length (proposed r (reporting s (received line)))
     → P
     (accept (concluded r (reporting s (received line)))
-    (sends (p2a own (reporting s (received line)) (proposed r (reporting s (received line)))))))
+    (sends (p2a own (s .view) (s .ballot) (proposed r (reporting s (received line)))))))
     (on-end : Reports r own room s line → proposed r (reporting s (received line)) ≡ []
     → P (accept (concluded r (reporting s (received line))) silent))
     (on-append : Requests r own room s line → P (accept (waiting s (appended (pendingOf s) (first (received line)))) silent))
     (on-elect : Elects r own room s line → P (accept (inView s (received line .view)) silent)) where
   on-report : Reports r own room s line → {o : Reply State} → Effect r own (reporting s (received line)) o → P o
   on-report a (stores p) = on-store a
-  on-report a (proposes p q) = on-propose a p q
+  on-report a (proposes p q) = on-p2a a p q
   on-report a (ends p q) = on-end a q
 
   pub replies : Stepped r own room s line → P (step r own room s line)
@@ -293,7 +289,7 @@ module _ {r : Roster} {own room : ℕ} {s : State} {line : List ℕ} (P : Reply 
 -- what holds of a refusal and of the reply to an accepted opening holds of what an opening replies
 module _ {r : Roster} {own room : ℕ} {s : State} {ballot : Ballot} {fast : ℕ} (P : Reply State → Type 0)
     (on-refusal : (e : Refusal) → P (refuse s e))
-    (on-opening : Opens r own room s ballot fast → P (accept (inBallot s ballot fast) (sends (invitation own s ballot fast)))) where
+    (on-opening : Opens r own room s ballot fast → P (accept (inBallot (s .view) ballot fast (s .pending)) (sends (invitation own (s .view) ballot fast)))) where
   pub opening-replies : Opened r own room s ballot fast → P (opening r own room s ballot fast)
   opening-replies (stays e g o) = rw o (on-refusal e)
   opening-replies (opens a) = subst P (sym (a .outcome)) (on-opening a)
@@ -422,8 +418,23 @@ module _ (s : State) (m : Frame) where
   report-other t h i n =
       rw (with-bit-other (s .reported) (m .sender) i (λ e. n (sym e)), row-stored-other t (m .sender) h i n)
 
+-- so the two histories of an accepted P1B are its site's report
+module _ {r : Roster} {own room : ℕ} {s : State} {line : List ℕ} (a : Reports r own room s line) where
+  sender-below : received line .sender < sites
+  sender-below =
+      let seat = seated-is r own room (configured-is r own room s (a .configured) .seat) in
+      omega (arith, leb-false (r .n) (received line .sender) (a .from-site), valid-figures r (seat .roster) .max-sites)
+
+  pub report-proven : Sized (s .proven)
+      → reportIn (reporting s (received line)) (reporting s (received line) .proven) (received line .sender) ≡ first (received line)
+  report-proven z = report-new s (received line) (s .proven) (first (received line)) z sender-below (first-short line)
+
+  pub report-held : Sized (s .held)
+      → reportIn (reporting s (received line)) (reporting s (received line) .held) (received line .sender) ≡ second (received line)
+  report-held z = report-new s (received line) (s .held) (second (received line)) z sender-below (second-short line)
+
 -- "reports are forgotten": in a ballot just opened, no site's is there
-pub report-none : (s : State) (ballot : Ballot) (fast : ℕ) (t : Table) (i : ℕ) → reportIn (inBallot s ballot fast) t i ≡ []
+pub report-none : (s : State) (ballot : Ballot) (fast : ℕ) (t : Table) (i : ℕ) → reportIn (inBallot (s .view) ballot fast (s .pending)) t i ≡ []
 report-none s ballot fast t i =
     report-unmarked (t .words) (t .counts) 0 i (inside-bit 0 0 (beyond-false 0 0 .1 (pow-pos 0)) i (omega arith))
 
@@ -444,9 +455,9 @@ proposal-extends-chosen r s =
     (longest-short (r .n) (s .proven .words) (s .proven .counts) (s .reported))
 
 -- and has at most 32 commands
-pub proposal-short : (r : Roster) (s : State) → length (proposed r s) ≤ limit
+pub proposed-short : (r : Roster) (s : State) → length (proposed r s) ≤ limit
 unfolding proposed
-proposal-short r s = proposals.proposal-short (r .n) (reportIn s (s .proven)) (reportIn s (s .held)) (pendingOf s)
+proposed-short r s = proposals.proposal-short (r .n) (reportIn s (s .proven)) (reportIn s (s .held)) (pendingOf s)
 
 -- every report in a valid table is a valid history
 reports-valid : (n : ℕ) (s : State) (t : Table) → n ≤ sites → validTable n t ≡ true → (i : ℕ) → i < n → validHistory (reportIn s t i) ≡ true
@@ -470,13 +481,13 @@ proposal-history {r} {own} {room} {s} {line} a =
 -- ---- what stays pending
 
 -- a command after a call: it is pending, or the history of the frame that is sent holds it
-pub data Kept (c : ℕ) (o : Reply State) : Type 0 where
-  waits : holds (pendingOf (o .state)) c ≡ true → Kept c o
-  goes : {m : Frame} → o .sending ≡ sends m → holds (first m) c ≡ true → Kept c o
+pub data NotLost (c : ℕ) (o : Reply State) : Type 0 where
+  waits : holds (pendingOf (o .state)) c ≡ true → NotLost c o
+  goes : {m : Frame} → o .sending ≡ sends m → holds (first m) c ≡ true → NotLost c o
 
 -- the history of a P2A is the proposal
-pub p2a-carries : (r : Roster) (own : ℕ) (s : State) → first (p2a own s (proposed r s)) ≡ proposed r s
-p2a-carries r own s = first-is (proposed r s) (omega (arith, proposal-short r s))
+pub p2a-carries : (r : Roster) (own : ℕ) (s : State) → first (p2a own (s .view) (s .ballot) (proposed r s)) ≡ proposed r s
+p2a-carries r own s = first-is (proposed r s) (omega (arith, proposed-short r s))
 
 -- what stays pending after a proposal is stored whole
 remaining-stored : (r : Roster) (own room : ℕ) (s : State) (h : List ℕ) → config r own room s ≡ false
@@ -491,23 +502,23 @@ either false b e = inr e
 
 module _ {r : Roster} {own room : ℕ} {s : State} {line : List ℕ} (c : ℕ) (e : holds (pendingOf s) c ≡ true) (a : Reports r own room s line) where
   -- a proposal takes it along or leaves it
-  on-proposal : Kept c
-      (accept (concluded r (reporting s (received line))) (sends (p2a own (reporting s (received line)) (proposed r (reporting s (received line))))))
+  on-proposal : NotLost c
+      (accept (concluded r (reporting s (received line))) (sends (p2a own (s .view) (s .ballot) (proposed r (reporting s (received line))))))
   on-proposal =
       let t = reporting s (received line) in
       ⊎-elim (λ p. goes refl (rw (p2a-carries r own t) p)) (λ p. waits (rw (remaining-stored r own room s (proposed r t) (a .configured)) p))
       (either (holds (proposed r t) c) _ (kept-or-proposed (pendingOf s) (proposed r t) c e))
 
   -- an empty one leaves it
-  on-nothing : proposed r (reporting s (received line)) ≡ [] → Kept c (accept (concluded r (reporting s (received line))) silent)
+  on-nothing : proposed r (reporting s (received line)) ≡ [] → NotLost c (accept (concluded r (reporting s (received line))) silent)
   unfolding holds
   on-nothing p = waits (rw (p, remaining-stored r own room s [] (a .configured), remaining-holds (pendingOf s) [] c, e))
 
 -- nothing that is pending is lost, whatever the state and the line
-pub nothing-lost : (r : Roster) (own room : ℕ) (s : State) (line : List ℕ) (c : ℕ) → holds (pendingOf s) c ≡ true → Kept c (step r own room s line)
+pub nothing-lost : (r : Roster) (own room : ℕ) (s : State) (line : List ℕ) (c : ℕ) → holds (pendingOf s) c ≡ true → NotLost c (step r own room s line)
 nothing-lost r own room s line c e =
     let h = first (received line) in
-    replies (Kept c) (λ _. waits e) (λ a. waits e) (λ a p q. on-proposal c e a) (λ a p. on-nothing c e a p)
+    replies (NotLost c) (λ _. waits e) (λ a. waits e) (λ a p q. on-proposal c e a) (λ a p. on-nothing c e a p)
     (λ a. waits (rw (commands-stored (appended (pendingOf s) h) (ltb-false limit _ (a .fits))) (appended-holds (pendingOf s) h c e))) (λ a. waits e)
     (stepped r own room s line)
 
@@ -570,7 +581,7 @@ module _ (r : Roster) (own room : ℕ) (s : State) (ballot : Ballot) (fast : ℕ
 -- ---- the frames that are sent
 
 -- a P2A from `own` with the proposal of state s, which has reports of a quorum and something to propose
-pub record Message (r : Roster) (own : ℕ) (s : State) (m : Frame) : Type 0 where
+pub record IsP2A (r : Roster) (own : ℕ) (s : State) (m : Frame) : Type 0 where
   pub kind : m .kind ≡ 5
   pub sender : m .sender ≡ own
   pub view : m .view ≡ s .view
@@ -581,12 +592,12 @@ pub record Message (r : Roster) (own : ℕ) (s : State) (m : Frame) : Type 0 whe
 
 -- each frame that a step sends is one, of the state with the report that came
 pub sends-message : (r : Roster) (own room : ℕ) (s : State) (line : List ℕ) {m : Frame} → step r own room s line .sending ≡ sends m
-    → Message r own (reporting s (received line)) m
+    → IsP2A r own (reporting s (received line)) m
 sends-message r own room s line {m} h =
     let t = reporting s (received line) in
-    replies (λ o. o .sending ≡ sends m → Message r own t m) (λ _ g. absurd (silent-sends g)) (λ a g. absurd (silent-sends g))
+    replies (λ o. o .sending ≡ sends m → IsP2A r own t m) (λ _ g. absurd (silent-sends g)) (λ a g. absurd (silent-sends g))
     (λ a p q g.
-    subst (Message r own t) (sends-same g)
+    subst (IsP2A r own t) (sends-same g)
     (record { kind = refl; sender = refl; view = refl; ballot = refl; history = p2a-carries r own t; complete = p; some = q }))
     (λ a p g. absurd (silent-sends g)) (λ a g. absurd (silent-sends g)) (λ a g. absurd (silent-sends g)) (stepped r own room s line) h
 

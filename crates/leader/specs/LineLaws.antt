@@ -45,43 +45,31 @@ use Rattle.leader.specs.Leader.{
   validPending,
   config,
   form,
-  inView,
   waiting,
   reporting,
   reportIn,
   proposed,
   p2a,
   step,
-  inBallot,
   invitation,
   opening,
 }
 use Rattle.leader.specs.LeaderLaws.{
   Reports,
   Requests,
-  Elects,
-  Stepped,
-  refuses,
-  reports,
-  requests,
-  elects,
   stepped,
-  Opens,
-  Opened,
   opened,
   concluded,
   replies,
   opening-replies,
-  Pending,
   pending-is,
   pending-length,
   pending-stored,
   Lendable,
-  Configured,
   configured-is,
   is-configured,
   report-lendable,
-  proposal-short,
+  proposed-short,
 }
 
 -- ---- which frames FORM allows
@@ -140,12 +128,12 @@ module _ {own : ℕ} {s : State} (f : Fits own s) where
       (λ i p. each-report s (s .held) (f .held-fits) i) pending-each
 
   -- P2A, P1A and FAST of it
-  p2a-writable : (r : Roster) → writable (p2a own s (proposed r s)) ≡ true
+  p2a-writable : (r : Roster) → writable (p2a own (s .view) (s .ballot) (proposed r s)) ≡ true
   p2a-writable r =
-      message-writable 5 own (s .view) (s .ballot) (record { 0 = 0 }) 0 (proposal-short r s) (omega arith) (proposed-each r) none (lit< tt)
-      (f .own-fits) (f .view-fits) (f .ballot-fits) (lit< tt) (lit< tt) (p2a-proper own (s .view) (s .ballot) (proposed r s) (proposal-short r s))
+      message-writable 5 own (s .view) (s .ballot) (record { 0 = 0 }) 0 (proposed-short r s) (omega arith) (proposed-each r) none (lit< tt)
+      (f .own-fits) (f .view-fits) (f .ballot-fits) (lit< tt) (lit< tt) (p2a-proper own (s .view) (s .ballot) (proposed r s) (proposed-short r s))
 
-  invitation-writable : (ballot : Ballot) (fast : ℕ) → ballot .0 < 2 ^ 32 → writable (invitation own s ballot fast) ≡ true
+  invitation-writable : (ballot : Ballot) (fast : ℕ) → ballot .0 < 2 ^ 32 → writable (invitation own (s .view) ballot fast) ≡ true
   invitation-writable ballot fast l = go (isSet fast)
     where
       go : (b : Bool) → writable (message (cond b 2 1) own (s .view) ballot (record { 0 = 0 }) 0 [] []) ≡ true

@@ -1,19 +1,17 @@
 -- How the code computes a step: the answer first, from the parts of the state that it lends, and then the state after it by parts.
-use mathlib.Core.Bool.{Bool, true, false, not, cond, _&&_, _||_}
+use mathlib.Core.Bool.{Bool, true, false, not, cond, _&&_}
 use mathlib.Core.List.{List, [], _∷_}
 use Prim.Native.Nat.{ℕ, _≤_}
-use lib.Dec.{leb, ltb, eqb}
+use lib.Dec.{eqb}
 use lib.ListN.{length}
 use Rattle.roster.specs.declared.Roster.{Roster}
-use Rattle.roster.specs.declared.View.{View}
-use Rattle.roster.specs.declared.Ballot.{Ballot}
 use Rattle.roster.specs.Roster.{quorum}
 use Rattle.roster.specs.Mask.{reaches, withSite}
 use Rattle.history.specs.declared.History.{History}
 use Rattle.history.specs.Words.{limit, commands, stored}
 use Rattle.merge.specs.Merge.{appended}
 use Rattle.table.specs.declared.Table.{Table}
-use Rattle.table.specs.Table.{storedAt, tableOf, emptyTable}
+use Rattle.table.specs.Table.{storedAt, tableOf}
 use Rattle.proposal.specs.Proposal.{report, proposal, remaining}
 use Rattle.refusal.specs.declared.Refusal.{Refusal}
 use Rattle.refusal.specs.declared.Refusal.the-variants.{Config, Form}
@@ -22,8 +20,6 @@ use Rattle.refusal.specs.declared.Answer.the-variants.{Accepted, Refused}
 use Rattle.refusal.specs.Rules.{Rule, _gives_, judged}
 use Rattle.frame.specs.declared.Frame.{Frame}
 use Rattle.frame.specs.Layout.{first, second}
-use Rattle.site.specs.Site.{isSet}
-use Rattle.site.specs.Message.{message}
 use Rattle.site.specs.Reply.{Reply, sendsIf}
 use Rattle.leader.specs.declared.State.{State}
 use Rattle.leader.specs.declared.Marks.{Marks}
@@ -46,21 +42,17 @@ abbrev pub stateOf : Marks → History → Table → Table → State
 stateOf k pending proven held =
     record { view = k .view; ballot = k .ballot; classic = k .classic; pending = pending; reported = k .reported; proven = proven; held = held }
 
-abbrev pub config : Roster → ℕ → ℕ → Marks → History → List ℕ → List ℕ → List ℕ → List ℕ → Bool
-config r own room k pending words counts rows sizes = leader.config r own room (stateOf k pending (tableOf words counts) (tableOf rows sizes))
+abbrev pub configOf : Roster → ℕ → ℕ → Marks → History → List ℕ → List ℕ → List ℕ → List ℕ → Bool
+configOf r own room k pending provenWords provenCounts heldWords heldCounts = leader.config r own room (stateOf k pending (tableOf provenWords provenCounts) (tableOf heldWords heldCounts))
 
 -- the answer to a line of which this was read
 unfoldable pub answerIn : Roster → ℕ → ℕ → Marks → History → List ℕ → List ℕ → List ℕ → List ℕ → Bool → Frame → Answer
-answerIn r own room k pending words counts rows sizes found m =
+answerIn r own room k pending provenWords provenCounts heldWords heldCounts found m =
     judged Refused (answerTo r own k (commands pending) m)
-    (config r own room k pending words counts rows sizes gives Config ∷ not found gives Form ∷ [])
-
--- the marks of these values
-abbrev pub noted : View → Ballot → ℕ → ℕ → Marks
-noted view ballot classic reported = record { view = view; ballot = ballot; classic = classic; reported = reported }
+    (configOf r own room k pending provenWords provenCounts heldWords heldCounts gives Config ∷ not found gives Form ∷ [])
 
 -- no more than 32 commands in the lists that are appended to each other
-pub record Sizes (pending : List ℕ) (m : Frame) : Type 0 where
+pub record Short (pending : List ℕ) (m : Frame) : Type 0 where
   pub short-pending : length pending ≤ limit
   pub short : length (first m) ≤ limit
 
@@ -70,27 +62,27 @@ abbrev pub isAccepted : Answer → Bool
 isAccepted Accepted = true
 isAccepted (Refused e) = false
 
-abbrev pub reports : Answer → ℕ → Bool
-reports a kind = isAccepted a && eqb kind 3
+abbrev pub isReport : Answer → ℕ → Bool
+isReport a kind = isAccepted a && eqb kind 3
 
-abbrev pub requests : Answer → ℕ → Bool
-requests a kind = isAccepted a && (not (eqb kind 3) && eqb kind 4)
+abbrev pub isRequest : Answer → ℕ → Bool
+isRequest a kind = isAccepted a && (not (eqb kind 3) && eqb kind 4)
 
-abbrev pub elects : Answer → ℕ → Bool
-elects a kind = isAccepted a && (not (eqb kind 3) && not (eqb kind 4))
+abbrev pub isElection : Answer → ℕ → Bool
+isElection a kind = isAccepted a && (not (eqb kind 3) && not (eqb kind 4))
 
 -- ---- the parts of the state after it
 
 -- the sites that reported, and a table with the history of a report
-abbrev pub marked : Bool → ℕ → ℕ → ℕ
-marked reports mask site = cond reports (withSite mask site) mask
+abbrev pub reportedAfter : Bool → ℕ → ℕ → ℕ
+reportedAfter reports mask site = cond reports (withSite mask site) mask
 
 abbrev pub entered : Bool → Table → ℕ → List ℕ → Table
 entered reports t site h = cond reports (storedAt t site h) t
 
 -- whether this is report N-f, and the proposal then
-abbrev pub complete : Roster → Bool → ℕ → Bool
-complete r reports mask = reports && reaches mask (quorum r)
+abbrev pub isComplete : Roster → Bool → ℕ → Bool
+isComplete r reports mask = reports && reaches mask (quorum r)
 
 abbrev pub drafted : ℕ → Bool → ℕ → Table → Table → List ℕ → List ℕ
 drafted n complete mask proven held pending =
@@ -101,13 +93,13 @@ abbrev pub pendingAfter : Bool → Bool → History → List ℕ → List ℕ �
 pendingAfter requests complete pending h proposed =
     cond requests (stored (appended (commands pending) h)) (cond complete (stored (remaining (commands pending) proposed)) pending)
 
--- all of it
+-- what an answer to a frame does, of what the frame is
 abbrev pub settledBy : Roster → ℕ → State → Answer → Bool → Bool → Bool → Frame → Reply State
 settledBy r own s a reports requests elects m =
-    let mask = marked reports (s .reported) (m .sender) in
+    let mask = reportedAfter reports (s .reported) (m .sender) in
     let proven = entered reports (s .proven) (m .sender) (first m) in
     let held = entered reports (s .held) (m .sender) (second m) in
-    let done = complete r reports mask in
+    let done = isComplete r reports mask in
     let proposed = drafted (r .n) done mask proven held (commands (s .pending)) in
     record {
       answer = a;
@@ -120,30 +112,14 @@ settledBy r own s a reports requests elects m =
         proven = proven;
         held = held;
       };
-      sending = sendsIf (not (eqb (length proposed) 0)) (p2a own s proposed);
+      sending = sendsIf (not (eqb (length proposed) 0)) (p2a own (s .view) (s .ballot) proposed);
     }
 
 unfoldable pub settled : Roster → ℕ → State → Answer → Frame → Reply State
-settled r own s a m = settledBy r own s a (reports a (m .kind)) (requests a (m .kind)) (elects a (m .kind)) m
+settled r own s a m = settledBy r own s a (isReport a (m .kind)) (isRequest a (m .kind)) (isElection a (m .kind)) m
 
 -- ---- opening a ballot
 
 -- a call that is refused
 abbrev pub refused : State → Refusal → Outcome
 refused s e = record { answer = Refused e; sent = 0; state = s }
-
--- the frame that goes out, and the state, of the parts that they are made of
-abbrev pub invitation : ℕ → View → Ballot → ℕ → Frame
-invitation own view ballot fast = message (cond (isSet fast) 2 1) own view ballot (record { 0 = 0 }) 0 [] []
-
-abbrev pub inBallot : View → Ballot → ℕ → History → State
-inBallot view ballot fast pending =
-    record {
-      view = view;
-      ballot = ballot;
-      classic = cond (isSet fast) 0 1;
-      pending = pending;
-      reported = 0;
-      proven = emptyTable;
-      held = emptyTable;
-    }

@@ -1,23 +1,22 @@
 -- What is computed by parts is what the definitions say of the line.
 use mathlib.Core.Path.{_≡_, refl, ap, _∙_}
-use mathlib.Core.Bool.{Bool, true, false, not, cond}
+use mathlib.Core.Bool.{Bool, true, false}
 use mathlib.Core.List.{List, [], _∷_}
 use Prim.Native.Nat.{ℕ}
 use lib.Dec.{eqb}
 use Rattle.roster.specs.declared.Roster.{Roster}
 use Rattle.roster.specs.Roster.{quorum}
 use Rattle.roster.specs.Mask.{reaches, withSite}
-use Rattle.refusal.specs.declared.Refusal.{Refusal}
 use Rattle.refusal.specs.declared.Refusal.the-variants.{Config, Form}
 use Rattle.refusal.specs.declared.Answer.{Answer}
 use Rattle.refusal.specs.declared.Answer.the-variants.{Accepted, Refused}
 use Rattle.refusal.specs.Rules.{Rule, _gives_, judged}
-use Rattle.refusal.specs.RulesLaws.{judged-map, judged-later}
+use Rattle.refusal.specs.RulesLaws.{judged-map}
 use Rattle.frame.specs.declared.Frame.{Frame}
 use Rattle.frame.specs.Format.{readingOf, malformed}
 use Rattle.site.specs.Reply.{Reply, refuse}
 use Rattle.leader.specs.declared.State.{State}
-use Rattle.leader.specs.Leader.{P1B, PROPOSE, LEADER, kindOf, taken, received, marksOf, pendingOf, config, form, frameRules, rules, reporting, proposed, conclude, accepted, step}
+use Rattle.leader.specs.Leader.{kindOf, taken, received, marksOf, pendingOf, config, form, frameRules, rules, reporting, proposed, conclude, accepted, step}
 use Rattle.leader.specs.Parts.{answer, answerTo, answerIn, settledBy, settled}
 
 -- ---- the answer to a line is that of all rules

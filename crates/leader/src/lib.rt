@@ -1,13 +1,11 @@
 // The leader: it collects commands, opens ballots, and proposes a history of the reports that a quorum of sites sends it.
 ghost use mathlib.Core.Bool.{cond};
-ghost use mathlib.Core.List.{[]};
 ghost use mathlib.Core.Path.{_≡_};
 ghost use Prim.Native.Nat.{_≤_};
 ghost use lib.Dec.{ltb};
 ghost use lib.ListN.{length, take, drop};
 ghost use Rattle.history.specs.Words.{limit, stored, commands};
 ghost use Rattle.merge.specs.Merge.{appended};
-ghost use Rattle.site.specs.Message.{message};
 ghost use Rattle.site.specs.Reply.{buffer};
 ghost use Rattle.leader.specs.Leader as spec;
 ghost use Rattle.leader.specs.Parts as parts;
@@ -23,7 +21,7 @@ use table::Table;
 // What a leader keeps.
 #[repr(C)]
 pub struct State {
-    // The view that it leads, or led last.
+    // The last view that it took; 0 at first.
     pub view: View,
     // The last ballot that it opened.
     pub ballot: Ballot,
@@ -44,7 +42,7 @@ pub struct Outcome {
     pub state: State,
 }
 
-// What the checks read of a state beside its pending commands.
+// What the checks after CONFIG read of a state beside its pending commands.
 struct Marks {
     view: View,
     ballot: Ballot,
@@ -52,7 +50,7 @@ struct Marks {
     reported: u16,
 }
 
-// The kinds of frames taken and sent.
+// The kinds of frames taken and sent, but for LEADER, which is what is left of those taken.
 const P1A: u8 = 1;
 
 const FAST: u8 = 2;
@@ -87,17 +85,18 @@ fn config<'a>(
     room: usize,
     marks: Marks,
     pending: History,
-    words: &'a [u64],
-    counts: &'a [u8],
-    rows: &'a [u64],
-    sizes: &'a [u8],
+    proven: &'a [u64],
+    pcounts: &'a [u8],
+    held: &'a [u64],
+    hcounts: &'a [u8],
 ) -> bool
-    ensures { λ b. ⌜ b ≡ parts.config r own room marks pending (now (words .entry)) (now (counts .entry)) (now (rows .entry)) (now (sizes .entry)) ⌝ }
+    ensures { λ b. ⌜ b ≡ parts.configOf r own room marks pending (now (proven .entry)) (now (pcounts .entry)) (now (held .entry)) (now (hcounts .entry)) ⌝ }
 {
     !(site::seated(r, own, room)
         & (pending_valid(pending)
             & (!roster::beyond(marks.reported, r.n)
-                & (table::rows_valid(words, counts, r.n) & table::rows_valid(rows, sizes, r.n)))))
+                & (table::rows_valid(proven, pcounts, r.n)
+                    & table::rows_valid(held, hcounts, r.n)))))
 }
 
 // Whether a mask has a bit at N or above, or fewer than N-f ones.
@@ -148,7 +147,7 @@ fn overflows(p: &[u64], h: &[u64]) -> bool
 
 // The answer to a PROPOSE: sender, commands and requests, and then what is pending.
 fn on_propose(pending: &[u64], m: Frame) -> Answer
-    requires { ⌜ parts.Sizes (now pending) m ⌝ }
+    requires { ⌜ parts.Short (now pending) m ⌝ }
     ensures { λ a. ⌜ a ≡ parts.answer (spec.proposeRules (now (pending .entry)) m) ⌝ }
 {
     let nobody = m.sender == 0;
@@ -258,7 +257,7 @@ fn on_report(r: Roster, marks: Marks, m: Frame) -> Answer
 
 // The answer to a frame, by its kind.
 fn judge(r: Roster, own: u8, marks: Marks, pending: &[u64], m: Frame) -> Answer
-    requires { ⌜ parts.Sizes (now pending) m ⌝ }
+    requires { ⌜ parts.Short (now pending) m ⌝ }
     ensures { λ a. ⌜ a ≡ parts.answerTo r own marks (now (pending .entry)) m ⌝ }
 {
     let report = m.kind == P1B;
@@ -279,17 +278,17 @@ fn check<'a>(
     room: usize,
     marks: Marks,
     pending: History,
-    words: &'a [u64],
-    counts: &'a [u8],
-    rows: &'a [u64],
-    sizes: &'a [u8],
+    proven: &'a [u64],
+    pcounts: &'a [u8],
+    held: &'a [u64],
+    hcounts: &'a [u8],
     found: bool,
     m: Frame,
 ) -> Answer
     requires { ⌜ m .n ≤ 32 ⌝ }
-    ensures { λ a. ⌜ a ≡ parts.answerIn r own room marks pending (now (words .entry)) (now (counts .entry)) (now (rows .entry)) (now (sizes .entry)) found m ⌝ }
+    ensures { λ a. ⌜ a ≡ parts.answerIn r own room marks pending (now (proven .entry)) (now (pcounts .entry)) (now (held .entry)) (now (hcounts .entry)) found m ⌝ }
 {
-    let unfit = config(r, own, room, marks, pending, words, counts, rows, sizes);
+    let unfit = config(r, own, room, marks, pending, proven, pcounts, held, hcounts);
     if unfit {
         return Answer::Refused(Refusal::Config);
     }
@@ -317,8 +316,8 @@ fn accepts(a: Answer) -> bool
 }
 
 // The sites that reported, with this one if it reports.
-fn marked(reports: bool, mask: u16, site: u8) -> u16
-    ensures { λ k. ⌜ k ≡ parts.marked reports mask site ⌝ }
+fn reported_after(reports: bool, mask: u16, site: u8) -> u16
+    ensures { λ k. ⌜ k ≡ parts.reportedAfter reports mask site ⌝ }
 {
     if reports {
         return roster::with_site(mask, site);
@@ -348,13 +347,21 @@ fn draft(
     ensures { λ h. ⌜ h ≡ stored (parts.drafted n complete reported proven held (commands pending)) ⌝ }
 {
     if complete {
-        let words: &[u64] = &proven.words;
-        let counts: &[u8] = &proven.counts;
-        let rows: &[u64] = &held.words;
-        let sizes: &[u8] = &held.counts;
+        let proven_words: &[u64] = &proven.words;
+        let proven_counts: &[u8] = &proven.counts;
+        let held_words: &[u64] = &held.words;
+        let held_counts: &[u8] = &held.counts;
         let all: &[u64] = &pending.words;
         let p = history::first(all, pending.count as usize);
-        return proposal::propose(words, counts, rows, sizes, reported, n, p);
+        return proposal::propose(
+            proven_words,
+            proven_counts,
+            held_words,
+            held_counts,
+            reported,
+            n,
+            p,
+        );
     }
     let none: [u64; 0] = [];
     History::of(&none)
@@ -402,8 +409,8 @@ fn view_after(elects: bool, elected: View, present: View) -> View
 }
 
 // The P2A of a proposal.
-fn order(own: u8, view: View, ballot: Ballot, proposed: History) -> Frame
-    ensures { λ m. ⌜ m ≡ message 5 own view ballot (record { 0 = 0 }) 0 (commands proposed) [] ⌝ }
+fn p2a(own: u8, view: View, ballot: Ballot, proposed: History) -> Frame
+    ensures { λ m. ⌜ m ≡ spec.p2a own view ballot (commands proposed) ⌝ }
 {
     let all: &[u64] = &proposed.words;
     let h = history::first(all, proposed.count as usize);
@@ -426,14 +433,14 @@ fn settle(r: Roster, own: u8, s: State, answer: Answer, m: Frame, out: &mut [u8]
     let k = m.m as usize;
     let g = history::first(all, n);
     let h = after(all, n, k);
-    let reported = marked(reports, s.reported, m.sender);
+    let reported = reported_after(reports, s.reported, m.sender);
     let proven = entered(reports, s.proven, m.sender, g);
     let held = entered(reports, s.held, m.sender, h);
     let complete = reports & roster::reaches(reported, r.quorum());
     let proposed = draft(complete, r.n, reported, proven, held, s.pending);
     let sent = site::hand_over(
         !(proposed.count == 0),
-        order(own, view, ballot, proposed),
+        p2a(own, view, ballot, proposed),
         out,
     );
     Outcome {
@@ -453,7 +460,7 @@ fn settle(r: Roster, own: u8, s: State, answer: Answer, m: Frame, out: &mut [u8]
 
 // The marks of a state with these values.
 fn note(view: View, ballot: Ballot, classic: u8, reported: u16) -> Marks
-    ensures { λ k. ⌜ k ≡ parts.noted view ballot classic reported ⌝ }
+    ensures { λ k. ⌜ k ≡ record { view = view; ballot = ballot; classic = classic; reported = reported } ⌝ }
 {
     Marks {
         view,
@@ -471,10 +478,10 @@ pub fn step(r: Roster, own: u8, s: State, line: &[u8], out: &mut [u8]) -> Outcom
     let found = reading.found;
     let m = reading.frame;
     let marks = note(s.view, s.ballot, s.classic, s.reported);
-    let words: &[u64] = &s.proven.words;
-    let counts: &[u8] = &s.proven.counts;
-    let rows: &[u64] = &s.held.words;
-    let sizes: &[u8] = &s.held.counts;
+    let proven_words: &[u64] = &s.proven.words;
+    let proven_counts: &[u8] = &s.proven.counts;
+    let held_words: &[u64] = &s.held.words;
+    let held_counts: &[u8] = &s.held.counts;
     let room = out.len();
     let answer = check(
         r,
@@ -482,10 +489,10 @@ pub fn step(r: Roster, own: u8, s: State, line: &[u8], out: &mut [u8]) -> Outcom
         room,
         marks,
         s.pending,
-        words,
-        counts,
-        rows,
-        sizes,
+        proven_words,
+        proven_counts,
+        held_words,
+        held_counts,
         found,
         m,
     );
@@ -520,7 +527,7 @@ fn pick(first: bool, a: u8, b: u8) -> u8
 
 // The frame that opens a ballot: FAST where the flag is set, else P1A.
 fn invitation(own: u8, view: View, ballot: Ballot, fast: u8) -> Frame
-    ensures { λ m. ⌜ m ≡ parts.invitation own view ballot fast ⌝ }
+    ensures { λ m. ⌜ m ≡ spec.invitation own view ballot fast ⌝ }
 {
     let none: [u64; 0] = [];
     let kind = pick(!(fast == 0), FAST, P1A);
@@ -529,7 +536,7 @@ fn invitation(own: u8, view: View, ballot: Ballot, fast: u8) -> Frame
 
 // The state in a ballot that was just opened.
 fn in_ballot(view: View, ballot: Ballot, fast: u8, pending: History) -> State
-    ensures { λ s. ⌜ s ≡ parts.inBallot view ballot fast pending ⌝ }
+    ensures { λ s. ⌜ s ≡ spec.inBallot view ballot fast pending ⌝ }
 {
     State {
         view,
@@ -554,12 +561,22 @@ pub fn open_ballot(
     ensures { λ o. ⌜ (o ≡ spec.openingReturned r own s ballot fast (now (out .entry))) × (now (out .exit) ≡ spec.openingOutput r own s ballot fast (now (out .entry))) ⌝ }
 {
     let marks = note(s.view, s.ballot, s.classic, s.reported);
-    let words: &[u64] = &s.proven.words;
-    let counts: &[u8] = &s.proven.counts;
-    let rows: &[u64] = &s.held.words;
-    let sizes: &[u8] = &s.held.counts;
+    let proven_words: &[u64] = &s.proven.words;
+    let proven_counts: &[u8] = &s.proven.counts;
+    let held_words: &[u64] = &s.held.words;
+    let held_counts: &[u8] = &s.held.counts;
     let room = out.len();
-    let unfit = config(r, own, room, marks, s.pending, words, counts, rows, sizes);
+    let unfit = config(
+        r,
+        own,
+        room,
+        marks,
+        s.pending,
+        proven_words,
+        proven_counts,
+        held_words,
+        held_counts,
+    );
     if unfit {
         return refuse(s, Refusal::Config);
     }

@@ -2,20 +2,20 @@
 use mathlib.Core.Path.{_≡_, refl, sym, ap, _∙_, subst}
 use mathlib.Core.Bool.{true, false}
 use mathlib.Core.List.{List, [], _∷_, _++_, append-nil}
-use Prim.Native.Nat.{ℕ, zero, suc, _+_, _-_, _≤_, _<_}
+use Prim.Native.Nat.{ℕ, suc, _+_, _-_, _≤_, _<_}
 use native.Mathlib.Omega.{arith}
 use native.Mathlib.Numerals.{add-one}
 use lib.ListN.{length, take, drop, getD, set, drop-of-length-le, length-take, length-set}
 use lib.Seq.{take-at, take-all, drop-cons, length-take-le, length-front, take-suc-set, append-snoc}
 use Rattle.history.specs.History.{canonical}
 use Rattle.history.specs.CanonicalLaws.{canonical-length}
-use Rattle.history.specs.Words.{limit, padded, stored}
+use Rattle.history.specs.Words.{limit, padded}
 use Rattle.history.specs.WordsLaws.{take-padded}
 use Rattle.merge.specs.Merge.{appendedIn}
 use Rattle.merge.specs.Appending.{holds}
 use Rattle.merge.specs.AppendingLaws.{take-appended}
-use Rattle.proposal.specs.Proposal.{longer, longestTo, extended, extendedTo, gathered, proposal, remaining, Gathered}
-use Rattle.proposal.specs.ProposalLaws.{longest-suc, extended-short}
+use Rattle.proposal.specs.Proposal.{longer, longestTo, filled, filledTo, assembled, proposal, remaining, Begins}
+use Rattle.proposal.specs.ProposalLaws.{longest-suc, filled-short}
 
 -- ---- the longest
 
@@ -27,45 +27,45 @@ longest-next n f p =
 
 -- ---- gathering
 
-pub gather-start : (words : List ℕ) (n : ℕ) → length words ≡ limit → n ≤ limit → Gathered words n (take n words)
+pub gather-start : (words : List ℕ) (n : ℕ) → length words ≡ limit → n ≤ limit → Begins words n (take n words)
 gather-start words n p q = record { length-is = p; count = sym (length-take-le n words (omega arith)); words-are = refl; short = q }
 
 -- one list more is appended
-pub gather-more : {b g : List ℕ} {k : ℕ} → Gathered b k g → (h : List ℕ) (n : ℕ) (w : List ℕ) → n ≡ length (appendedIn b k h)
-    → w ≡ appendedIn b k h ++ drop n b → length w ≡ length b → Gathered w n (extended g h)
-unfolding extended
+pub gather-more : {b g : List ℕ} {k : ℕ} → Begins b k g → (h : List ℕ) (n : ℕ) (w : List ℕ) → n ≡ length (appendedIn b k h)
+    → w ≡ appendedIn b k h ++ drop n b → length w ≡ length b → Begins w n (filled g h)
+unfolding filled
 gather-more {b} {g} {k} s h n w p q r =
     record {
       length-is = r ∙ s .length-is;
       count = p ∙ ap length whole;
       words-are = take-appended b k h n w p q ∙ whole;
-      short = rw (p ∙ ap length whole) (extended-short g h);
+      short = rw (p ∙ ap length whole) (filled-short g h);
     }
   where
-    whole : appendedIn b k h ≡ extended g h
+    whole : appendedIn b k h ≡ filled g h
     whole = rw (s .length-is, s .words-are)
 
 -- the words hold the longest proven history g, then the held histories too, then what is pending
-pub gathered-all : (n : ℕ) (proven held : ℕ → List ℕ) (pending : List ℕ) (g : List ℕ) → g ≡ longestTo n proven → length (longestTo n proven) ≤ limit
-    → (a : List ℕ) → a ≡ padded limit g → {b : List ℕ} {k : ℕ} → Gathered b k (extendedTo n held (take (length g) a))
+pub assembled-all : (n : ℕ) (proven held : ℕ → List ℕ) (pending : List ℕ) (g : List ℕ) → g ≡ longestTo n proven → length (longestTo n proven) ≤ limit
+    → (a : List ℕ) → a ≡ padded limit g → {b : List ℕ} {k : ℕ} → Begins b k (filledTo n held (take (length g) a))
     → (m : ℕ) (w : List ℕ) → m ≡ length (appendedIn b k pending) → w ≡ appendedIn b k pending ++ drop m b → length w ≡ length b
-    → Gathered w m (gathered n proven held pending)
-unfolding gathered
-gathered-all n proven held pending g e short a f {b} {k} s m w p q r =
+    → Begins w m (assembled n proven held pending)
+unfolding assembled
+assembled-all n proven held pending g e short a f {b} {k} s m w p q r =
     let base : take (length g) a ≡ longestTo n proven = rw f (take-padded limit g (rw e short)) ∙ e in
-    gather-more (subst (λ (x : List ℕ). Gathered b k (extendedTo n held x)) base s) pending m w p q r
+    gather-more (subst (λ (x : List ℕ). Begins b k (filledTo n held x)) base s) pending m w p q r
 
 -- the first k of w are there after they were replaced by as many
 pub part-bound : (w o : List ℕ) (k : ℕ) → k ≤ length w → length o ≡ length (take k w) → k ≤ length (o ++ drop k w)
 part-bound w o k p e = rw (length-front w o k e) p
 
 -- the part of the words that was put in order is the proposal
-pub order-gathered : (n : ℕ) (proven held : ℕ → List ℕ) (pending : List ℕ) {w : List ℕ} {k : ℕ} → Gathered w k (gathered n proven held pending)
+pub order-gathered : (n : ℕ) (proven held : ℕ → List ℕ) (pending : List ℕ) {w : List ℕ} {k : ℕ} → Begins w k (assembled n proven held pending)
     → (o : List ℕ) → o ≡ canonical (take k w) → take k (o ++ drop k w) ≡ proposal n proven held pending
 unfolding proposal
 order-gathered n proven held pending {w} {k} s o e =
-    let ordered : o ≡ canonical (gathered n proven held pending) = e ∙ ap canonical (s .words-are) in
-    take-at o (drop k w) k (ap length ordered ∙ canonical-length (gathered n proven held pending) ∙ sym (s .count)) ∙ ordered
+    let ordered : o ≡ canonical (assembled n proven held pending) = e ∙ ap canonical (s .words-are) in
+    take-at o (drop k w) k (ap length ordered ∙ canonical-length (assembled n proven held pending) ∙ sym (s .count)) ∙ ordered
 
 -- ---- keeping
 

@@ -26,21 +26,21 @@ longestTo zero f = []
 longestTo (suc n) f = longer (longestTo n f) (f n)
 
 -- g with h appended, "skipping any proposer and serial present and stopping at 32"
-unfoldable pub extended : List ℕ → List ℕ → List ℕ
-extended g h = take limit (appended g h)
+unfoldable pub filled : List ℕ → List ℕ → List ℕ
+filled g h = take limit (appended g h)
 
 -- "Then it appends the held histories by rising site": those that f gives of the sites below n
-unfoldable pub extendedTo : ℕ → (ℕ → List ℕ) → List ℕ → List ℕ
-extendedTo zero f g = g
-extendedTo (suc n) f g = extended (extendedTo n f g) (f n)
+unfoldable pub filledTo : ℕ → (ℕ → List ℕ) → List ℕ → List ℕ
+filledTo zero f g = g
+filledTo (suc n) f g = filled (filledTo n f g) (f n)
 
 -- what the leader puts together of n sites' reports, proven and held, "then pending"
-unfoldable pub gathered : ℕ → (ℕ → List ℕ) → (ℕ → List ℕ) → List ℕ → List ℕ
-gathered n proven held pending = extended (extendedTo n held (longestTo n proven)) pending
+unfoldable pub assembled : ℕ → (ℕ → List ℕ) → (ℕ → List ℕ) → List ℕ → List ℕ
+assembled n proven held pending = filled (filledTo n held (longestTo n proven)) pending
 
 -- the proposal: "the canonical result"
 unfoldable pub proposal : ℕ → (ℕ → List ℕ) → (ℕ → List ℕ) → List ℕ → List ℕ
-proposal n proven held pending = canonical (gathered n proven held pending)
+proposal n proven held pending = canonical (assembled n proven held pending)
 
 -- "Pending keeps what the result doesn't hold": the commands of `pending`, in their order, that h does not hold
 unfoldable pub remaining : List ℕ → List ℕ → List ℕ
@@ -48,7 +48,7 @@ remaining [] h = []
 remaining (c ∷ pending) h = cond (holds h c) (remaining pending h) (c ∷ remaining pending h)
 
 -- the first n words are these commands, at most 32 of them
-pub record Gathered (words : List ℕ) (n : ℕ) (h : List ℕ) : Type 0 where
+pub record Begins (words : List ℕ) (n : ℕ) (h : List ℕ) : Type 0 where
   pub length-is : length words ≡ limit
   pub count : n ≡ length h
   pub words-are : take n words ≡ h

@@ -5,7 +5,7 @@ use mathlib.Core.Bool.{Bool, true, false, not, cond, _&&_, _||_}
 use mathlib.Core.List.{List, [], _∷_, _++_}
 use Prim.Native.Nat.{ℕ, zero, suc, _≤_, _<_}
 use native.Mathlib.Omega.{arith}
-use borrow.Author.Tests.{lt-ltb, le-ltb, eqb-true, not-true}
+use borrow.Author.Tests.{lt-ltb, le-ltb, eqb-true}
 use lib.Dec.{eqb}
 use lib.ListN.{length, take, drop, length-take, take-append-drop}
 use lib.Seq.{take-take}
@@ -26,7 +26,7 @@ use Rattle.merge.specs.Appending.{holds}
 use Rattle.merge.specs.AppendingLaws.{appended-front, each-appended}
 use Rattle.table.specs.Table.{row}
 use Rattle.table.specs.TableLaws.{length-row}
-use Rattle.proposal.specs.Proposal.{report, longer, longestTo, extended, extendedTo, gathered, proposal, remaining}
+use Rattle.proposal.specs.Proposal.{report, longer, longestTo, filled, filledTo, assembled, proposal, remaining}
 
 -- ---- a report
 
@@ -127,90 +127,90 @@ longest-short n words counts reported =
 -- ---- appending up to 32 commands
 
 -- it has at most 32 commands then
-pub extended-short : (g h : List ℕ) → length (extended g h) ≤ limit
-unfolding extended
-extended-short g h = rw length-take (omega arith)
+pub filled-short : (g h : List ℕ) → length (filled g h) ≤ limit
+unfolding filled
+filled-short g h = rw length-take (omega arith)
 
 -- appending to at most 32 commands only appends
-pub extended-extends : (g h : List ℕ) → length g ≤ limit → Extends (extended g h) g
-unfolding extended
-extended-extends g h p =
-    let front : take (length g) (extended g h) ≡ g = take-take (length g) limit (appended g h) p ∙ appended-front g h in
+pub filled-extends : (g h : List ℕ) → length g ≤ limit → Extends (filled g h) g
+unfolding filled
+filled-extends g h p =
+    let front : take (length g) (filled g h) ≡ g = take-take (length g) limit (appended g h) p ∙ appended-front g h in
     record {
-      x = drop (length g) (extended g h);
-      equivalent = equivalent-refl (ap (λ (l : List ℕ). l ++ drop (length g) (extended g h)) (sym front) ∙ take-append-drop (length g) (extended g h));
+      x = drop (length g) (filled g h);
+      equivalent = equivalent-refl (ap (λ (l : List ℕ). l ++ drop (length g) (filled g h)) (sym front) ∙ take-append-drop (length g) (filled g h));
     }
 
 -- no site's appended
-pub extended-zero : (f : ℕ → List ℕ) (g : List ℕ) → extendedTo 0 f g ≡ g
-unfolding extendedTo
-extended-zero f g = refl
+pub filled-to-zero : (f : ℕ → List ℕ) (g : List ℕ) → filledTo 0 f g ≡ g
+unfolding filledTo
+filled-to-zero f g = refl
 
 -- one site's more
-pub extended-suc : (n : ℕ) (f : ℕ → List ℕ) (g : List ℕ) → extendedTo (suc n) f g ≡ extended (extendedTo n f g) (f n)
-unfolding extendedTo
-extended-suc n f g = refl
+pub filled-to-suc : (n : ℕ) (f : ℕ → List ℕ) (g : List ℕ) → filledTo (suc n) f g ≡ filled (filledTo n f g) (f n)
+unfolding filledTo
+filled-to-suc n f g = refl
 
 -- with all of them appended it has at most 32 commands if it had
-pub extended-to-short : (n : ℕ) (f : ℕ → List ℕ) (g : List ℕ) → length g ≤ limit → length (extendedTo n f g) ≤ limit
-unfolding extendedTo
-extended-to-short zero f g p = p
-extended-to-short (suc n) f g p = extended-short (extendedTo n f g) (f n)
+pub filled-to-short : (n : ℕ) (f : ℕ → List ℕ) (g : List ℕ) → length g ≤ limit → length (filledTo n f g) ≤ limit
+unfolding filledTo
+filled-to-short zero f g p = p
+filled-to-short (suc n) f g p = filled-short (filledTo n f g) (f n)
 
 -- and extends what it was
-extended-to-extends : (n : ℕ) (f : ℕ → List ℕ) (g : List ℕ) → length g ≤ limit → Extends (extendedTo n f g) g
-unfolding extendedTo
-extended-to-extends zero f g p = extends-refl g
-extended-to-extends (suc n) f g p =
-    extends-trans (extended-extends (extendedTo n f g) (f n) (extended-to-short n f g p)) (extended-to-extends n f g p)
+filled-to-extends : (n : ℕ) (f : ℕ → List ℕ) (g : List ℕ) → length g ≤ limit → Extends (filledTo n f g) g
+unfolding filledTo
+filled-to-extends zero f g p = extends-refl g
+filled-to-extends (suc n) f g p =
+    extends-trans (filled-extends (filledTo n f g) (f n) (filled-to-short n f g p)) (filled-to-extends n f g p)
 
 -- ---- the proposal
 
 -- P stays with a history that is cut off after n commands, to which one that has Q is appended, or whose order changes to an equivalent one
-pub record Kept (P Q : List ℕ → Type 0) : Type 0 where
+pub record Closed (P Q : List ℕ → Type 0) : Type 0 where
   pub cut : (n : ℕ) {h : List ℕ} → P h → P (take n h)
   pub appending : {g h : List ℕ} → P g → Q h → P (appended g h)
   pub reordering : {g h : List ℕ} → Equivalent g h → P g → P h
 
-module _ {P Q : List ℕ → Type 0} (k : Kept P Q) where
-  extended-keeps : {g h : List ℕ} → P g → Q h → P (extended g h)
-  unfolding extended
-  extended-keeps p q = k .cut limit (k .appending p q)
+module _ {P Q : List ℕ → Type 0} (k : Closed P Q) where
+  filled-keeps : {g h : List ℕ} → P g → Q h → P (filled g h)
+  unfolding filled
+  filled-keeps p q = k .cut limit (k .appending p q)
 
-  extended-to-keeps : (n : ℕ) (f : ℕ → List ℕ) (g : List ℕ) → P g → ((i : ℕ) → i < n → Q (f i)) → P (extendedTo n f g)
-  unfolding extendedTo
-  extended-to-keeps zero f g p each = p
-  extended-to-keeps (suc n) f g p each =
-      extended-keeps (extended-to-keeps n f g p (λ i q. each i (omega arith))) (each n (omega arith))
+  filled-to-keeps : (n : ℕ) (f : ℕ → List ℕ) (g : List ℕ) → P g → ((i : ℕ) → i < n → Q (f i)) → P (filledTo n f g)
+  unfolding filledTo
+  filled-to-keeps zero f g p each = p
+  filled-to-keeps (suc n) f g p each =
+      filled-keeps (filled-to-keeps n f g p (λ i q. each i (omega arith))) (each n (omega arith))
 
   -- such a P of the longest proven history is one of the proposal, if the held histories and what is pending have Q
   pub proposal-keeps : (n : ℕ) (proven held : ℕ → List ℕ) (pending : List ℕ) → P (longestTo n proven) → ((i : ℕ) → i < n → Q (held i)) → Q pending
       → P (proposal n proven held pending)
-  unfolding proposal gathered
+  unfolding proposal assembled
   proposal-keeps n proven held pending p each q =
-      k .reordering (equivalent-sym (canonical-equivalent (gathered n proven held pending)))
-      (extended-keeps (extended-to-keeps n held (longestTo n proven) p each) q)
+      k .reordering (equivalent-sym (canonical-equivalent (assembled n proven held pending)))
+      (filled-keeps (filled-to-keeps n held (longestTo n proven) p each) q)
 
 module _ (n : ℕ) (proven held : ℕ → List ℕ) (pending : List ℕ) where
   -- the proposal extends the longest proven history
   pub proposal-extends : length (longestTo n proven) ≤ limit → Extends (proposal n proven held pending) (longestTo n proven)
-  unfolding proposal gathered
+  unfolding proposal assembled
   proposal-extends p =
-      extends-along (equivalent-sym (canonical-equivalent (gathered n proven held pending)))
+      extends-along (equivalent-sym (canonical-equivalent (assembled n proven held pending)))
       (extends-trans
-      (extended-extends (extendedTo n held (longestTo n proven)) pending (extended-to-short n held (longestTo n proven) p))
-      (extended-to-extends n held (longestTo n proven) p))
+      (filled-extends (filledTo n held (longestTo n proven)) pending (filled-to-short n held (longestTo n proven) p))
+      (filled-to-extends n held (longestTo n proven) p))
 
   -- it is canonical
   pub proposal-canonical : isCanonical (proposal n proven held pending) ≡ true
   unfolding proposal
-  proposal-canonical = canonical-is-canonical (gathered n proven held pending)
+  proposal-canonical = canonical-is-canonical (assembled n proven held pending)
 
   -- it has at most 32 commands
   pub proposal-short : length (proposal n proven held pending) ≤ limit
-  unfolding proposal gathered
+  unfolding proposal assembled
   proposal-short =
-      rw (canonical-length (gathered n proven held pending)) (extended-short (extendedTo n held (longestTo n proven)) pending)
+      rw (canonical-length (assembled n proven held pending)) (filled-short (filledTo n held (longestTo n proven)) pending)
 
 -- ---- cutting off brings in nothing
 
@@ -235,7 +235,7 @@ all-valid-cut (suc n) (c ∷ h) e = rw (and-left (validCommand c) _ e) (all-vali
 -- ---- the proposal is a valid history
 
 -- no proposer and serial twice: this stays whatever is appended
-distinct-kept : Kept (λ h. repeated h ≡ false) (λ h. Unit {0})
+distinct-kept : Closed (λ h. repeated h ≡ false) (λ h. Unit {0})
 distinct-kept =
     record {
       cut = λ n {h} u. repeated-cut n h u;
@@ -244,7 +244,7 @@ distinct-kept =
     }
 
 -- valid commands: they stay if those that are appended are valid
-all-valid-kept : Kept (λ h. allValid h ≡ true) (λ h. allValid h ≡ true)
+all-valid-kept : Closed (λ h. allValid h ≡ true) (λ h. allValid h ≡ true)
 all-valid-kept =
     record {
       cut = λ n {h} a. all-valid-cut n h a;
@@ -279,7 +279,7 @@ module _ (n : ℕ) (proven held : ℕ → List ℕ) (pending : List ℕ) where
 -- ---- the words of the proposal
 
 -- words that fit eight bytes do so in any part, with such words appended, and in any order
-each-kept : Kept EachFits EachFits
+each-kept : Closed EachFits EachFits
 each-kept = record { cut = λ n w. each-take n w; appending = λ v w. each-appended v w; reordering = λ e w. each-along e w }
 
 -- the words of the proposal fit if all those do of which it is made
@@ -314,14 +314,6 @@ module _ (pending h : List ℕ) (c : ℕ) where
       either : (b : Bool) → (b || not b) ≡ true
       either true = refl
       either false = refl
-
-  -- what stays pending was pending
-  pub remaining-pending : holds (remaining pending h) c ≡ true → holds pending c ≡ true
-  remaining-pending e = and-left (holds pending c) _ (sym (remaining-holds pending h c) ∙ e)
-
-  -- and h does not hold it
-  pub remaining-new : holds (remaining pending h) c ≡ true → holds h c ≡ false
-  remaining-new e = not-true (holds h c) (and-right (holds pending c) _ (sym (remaining-holds pending h c) ∙ e))
 
 -- a proposer and serial that was not pending is not there
 remaining-absent : (pending h : List ℕ) (c : ℕ) → present c pending ≡ false → present c (remaining pending h) ≡ false

@@ -46,7 +46,7 @@ fn gather<'a>(
     n: u8,
 ) -> usize
     requires { ⌜ (length (now work) ≡ 32) × (count ≤ 32) ⌝ }
-    ensures { λ r. ⌜ spec.Gathered (now (work .exit)) r (spec.extendedTo n (spec.report (now (words .entry)) (now (counts .entry)) reported) (take count (now (work .entry)))) ⌝ }
+    ensures { λ r. ⌜ spec.Begins (now (work .exit)) r (spec.filledTo n (spec.report (now (words .entry)) (now (counts .entry)) reported) (take count (now (work .entry)))) ⌝ }
 {
     let mut len = count;
     let mut next: u8 = 0;
@@ -61,20 +61,20 @@ fn gather<'a>(
 // The proposal of n sites' reports, of which these have come, and of what is pending.
 pub fn propose<'a>(
     proven: &'a [u64],
-    lengths: &'a [u8],
+    pcounts: &'a [u8],
     held: &'a [u64],
-    sizes: &'a [u8],
+    hcounts: &'a [u8],
     reported: u16,
     n: u8,
     pending: &'a [u64],
 ) -> History
-    ensures { λ h. ⌜ h ≡ stored (spec.proposal n (spec.report (now (proven .entry)) (now (lengths .entry)) reported) (spec.report (now (held .entry)) (now (sizes .entry)) reported) (now (pending .entry))) ⌝ }
+    ensures { λ h. ⌜ h ≡ stored (spec.proposal n (spec.report (now (proven .entry)) (now (pcounts .entry)) reported) (spec.report (now (held .entry)) (now (hcounts .entry)) reported) (now (pending .entry))) ⌝ }
 {
-    let best = longest(proven, lengths, reported, n);
-    let chosen = best.len();
+    let best = longest(proven, pcounts, reported, n);
+    let len = best.len();
     let mut work = [0u64; 32];
     history::fill(&mut work, best);
-    let some = gather(&mut work, chosen, held, sizes, reported, n);
+    let some = gather(&mut work, len, held, hcounts, reported, n);
     let all = merge::append(&mut work, some, pending);
     history::put_in_order(&mut work[..all]);
     History::of(&work[..all])

@@ -1,6 +1,7 @@
-// One site over lines from standard input: its view change and its acceptor, which share the view-change record. A line that starts with
-// `#` is a comment and is copied; `=` with six hex digits, N, f and the own number, starts again with a fresh site; any other line is a
-// frame handed in, and gets a line with the answer and, where a frame is sent, a blank and that frame.
+// One site over lines from standard input: its view change and its acceptor, which share the view-change record, and its leader. A line
+// that starts with `#` is a comment and is copied; `=` with six hex digits, N, f and the own number, starts again with a fresh site; `>`
+// with a frame hands it to the leader; `+` with a P1A or a FAST is the host that opens the ballot of that frame; any other line is a frame
+// for the view change or the acceptor. All but the first two get a line with the answer and, where a frame is sent, a blank and that frame.
 use acceptor::State;
 use libc::STDIN_FILENO;
 use libc::STDOUT_FILENO;
@@ -9,12 +10,18 @@ use site::ViewRecord;
 
 const LINE_FEED: u8 = 10;
 
-// What a site is and keeps: roster, own number, view-change record, and the acceptor's state.
+// The kind FAST; and P1A and FAST, which are bits 1 and 2.
+const FAST: u8 = 2;
+
+const OPENING: u16 = 6;
+
+// What a site is and keeps: roster, own number, view-change record, and the states of acceptor and leader.
 struct Site {
     roster: Roster,
     own: u8,
     views: ViewRecord,
     state: State,
+    leading: leader::State,
 }
 
 // What stands between two reads of the input: the site, how many bytes are kept of the line that arrives, and whether the input is over.
@@ -27,6 +34,11 @@ struct Stream {
 // The first n bytes, or all of them if there are fewer.
 fn first<'a>(bytes: &'a [u8], n: usize) -> &'a [u8] {
     if n <= bytes.len() { &bytes[..n] } else { bytes }
+}
+
+// The bytes after the first.
+fn rest<'a>(bytes: &'a [u8]) -> &'a [u8] {
+    if 1 <= bytes.len() { &bytes[1..] } else { bytes }
 }
 
 // Writes bytes to standard output.
@@ -52,6 +64,7 @@ fn fresh(roster: Roster, own: u8) -> Site {
         own,
         views: ViewRecord::fresh(),
         state: State::fresh(),
+        leading: leader::State::fresh(),
     }
 }
 
@@ -83,11 +96,13 @@ fn change(s: Site, line: &[u8], out: &mut [u8]) -> Site {
     let roster = s.roster;
     let views = o.views;
     let state = s.state;
+    let leading = s.leading;
     Site {
         roster,
         own: s.own,
         views,
         state,
+        leading,
     }
 }
 
@@ -99,12 +114,46 @@ fn accept(s: Site, line: &[u8], out: &mut [u8]) -> Site {
     let roster = s.roster;
     let views = s.views;
     let state = o.state;
+    let leading = s.leading;
     Site {
         roster,
         own: s.own,
         views,
         state,
+        leading,
     }
+}
+
+// The site after a call of its leader.
+fn led(s: Site, o: leader::Outcome, out: &[u8]) -> Site {
+    let answer = o.answer;
+    say(answer.number(), first(out, o.sent));
+    let roster = s.roster;
+    let views = s.views;
+    let state = s.state;
+    let leading = o.state;
+    Site {
+        roster,
+        own: s.own,
+        views,
+        state,
+        leading,
+    }
+}
+
+// The site after a line for the leader.
+fn lead(s: Site, line: &[u8], out: &mut [u8]) -> Site {
+    let o = leader::step(s.roster, s.own, s.leading, line, out);
+    led(s, o, out)
+}
+
+// The site after its host opened the ballot of a P1A or a FAST; a line that is neither counts as ballot 0.
+fn open_ballot(s: Site, line: &[u8], out: &mut [u8]) -> Site {
+    let reading = frame::read(line, OPENING);
+    let m = reading.frame;
+    let fast: u8 = if m.kind == FAST { 1 } else { 0 };
+    let o = leader::open_ballot(s.roster, s.own, s.leading, m.ballot, fast, out);
+    led(s, o, out)
 }
 
 // The site after a line.
@@ -119,6 +168,12 @@ fn hear(s: Site, line: &[u8], out: &mut [u8]) -> Site {
     }
     if mark == b'=' {
         return restart(line);
+    }
+    if mark == b'>' {
+        return lead(s, rest(line), out);
+    }
+    if mark == b'+' {
+        return open_ballot(s, rest(line), out);
     }
     let changes = for_view_change(line);
     if changes {

@@ -47,6 +47,9 @@ fn many(seed: u64, count: u64) -> Result<(), String> {
     if count >= 100 && stats.learning < count / 4 * 3 {
         return Err("learners learned in too few runs".to_string());
     }
+    if count >= 100 && stats.proposals < count {
+        return Err("honest leaders proposed too seldom".to_string());
+    }
     println!("nothing went wrong");
     Ok(())
 }

@@ -26,8 +26,8 @@ first-requires c κs = search needs
 after-requires : tie.Need-after-requires
 after-requires c κs = search needs
 
-marked-requires : tie.Need-marked-requires
-marked-requires c κs = search needs
+reported-after-requires : tie.Need-reported-after-requires
+reported-after-requires c κs = search needs
 
 entered-requires : tie.Need-entered-requires
 entered-requires c κs = search needs
@@ -44,8 +44,8 @@ reaches-requires c κs = search needs
 draft-requires : tie.Need-draft-requires
 draft-requires c κs = search needs
 
-order-requires : tie.Need-order-requires
-order-requires c κs = search needs
+p2a-requires : tie.Need-p2a-requires
+p2a-requires c κs = search needs
 
 hand-over-requires : tie.Need-hand-over-requires
 hand-over-requires c κs = search needs
@@ -65,17 +65,17 @@ returns c =
     let accepts-call = c .before .before .before .before .before .before .before .before .before .before .before .before .before .before .before .before .before .before .before .before .accepts in
     let first-call = c .before .before .before .before .before .before .before .before .before .before .before .before .before .before .before .before .first in
     let after-call = c .before .before .before .before .before .before .before .before .before .before .before .before .before .before .before .after in
-    let marked-call = c .before .before .before .before .before .before .before .before .before .before .before .before .before .before .marked in
+    let reported-after-call = c .before .before .before .before .before .before .before .before .before .before .before .before .before .before .reported-after in
     let entered-call = c .before .before .before .before .before .before .before .before .before .before .before .before .before .entered in
     let entered2-call = c .before .before .before .before .before .before .before .before .before .before .before .before .entered2 in
     let quorum-call = c .before .before .before .before .before .before .before .before .before .before .before .quorum in
     let reaches-call = c .before .before .before .before .before .before .before .before .before .before .reaches in
     let draft-call = c .before .before .before .before .before .before .before .before .before .draft in
-    let order-call = c .before .before .before .before .before .before .before .order in
+    let p2a-call = c .before .before .before .before .before .before .before .p2a in
     let view-after-call = c .before .view-after in
     let pending-after-call = c .pending-after in
     let hand-over-call = c .before .before .before .before .before .hand-over in
-    settle-done (given .r) (given .own) (given .s) (given .answer) (given .t5) (given .out .now) (accepts-call .result) (accepts-call .ensures) (now (first-call .result)) (now (after-call .result)) (marked-call .result) (entered-call .result) (entered2-call .result) (quorum-call .result) (reaches-call .result) (draft-call .result) (order-call .result) (view-after-call .result) (pending-after-call .result) _ _ (first-call .ensures) (after-call .ensures) (marked-call .ensures) (entered-call .ensures) (entered2-call .ensures) (quorum-call .ensures) (reaches-call .ensures) (draft-call .ensures) (order-call .ensures) (view-after-call .ensures) (pending-after-call .ensures) (hand-over-call .ensures)
+    settle-done (given .r) (given .own) (given .s) (given .answer) (given .t5) (given .out .now) (accepts-call .result) (accepts-call .ensures) (now (first-call .result)) (now (after-call .result)) (reported-after-call .result) (entered-call .result) (entered2-call .result) (quorum-call .result) (reaches-call .result) (draft-call .result) (p2a-call .result) (view-after-call .result) (pending-after-call .result) _ _ (first-call .ensures) (after-call .ensures) (reported-after-call .ensures) (entered-call .ensures) (entered2-call .ensures) (quorum-call .ensures) (reaches-call .ensures) (draft-call .ensures) (p2a-call .ensures) (view-after-call .ensures) (pending-after-call .ensures) (hand-over-call .ensures)
 
 pub settle-spec : {M : Type 1} → statement M
 settle-spec =
@@ -86,13 +86,13 @@ settle-spec =
     cast-k
     first-requires
     after-requires
-    marked-requires
+    reported-after-requires
     entered-requires
     entered-requires-2
     quorum-requires
     reaches-requires
     draft-requires
-    order-requires
+    p2a-requires
     hand-over-requires
     view-after-requires
     pending-after-requires

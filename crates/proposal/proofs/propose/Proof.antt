@@ -6,7 +6,7 @@ use Rattle.history.specs.Words.{stored}
 use Rattle.merge.specs.AppendingLaws.{append-bound}
 use Rattle.proposal.specs.Proposal.{report}
 use Rattle.proposal.specs.ProposalLaws.{longest-short}
-use Rattle.proposal.proofs.Turns.{gathered-all, part-bound, order-gathered}
+use Rattle.proposal.proofs.Turns.{assembled-all, part-bound, order-gathered}
 use borrow.Author.Needs.{needs}
 use Rattle.proposal.proofs.propose.Statement.{statement}
 use Rattle.proposal.proofs.propose.Tie as tie
@@ -82,12 +82,12 @@ returns c =
     let gather-call = c .before .before .before .before .before .before .before .before .before .gather in
     let append-call = c .before .before .before .before .before .before .append in
     let put-in-order-call = c .before .before .before .put-in-order in
-    let proven = report (given .proven .now) (given .lengths .now) (given .reported) in
-    let held = report (given .held .now) (given .sizes .now) (given .reported) in
+    let proven = report (given .proven .now) (given .pcounts .now) (given .reported) in
+    let held = report (given .held .now) (given .hcounts .now) (given .reported) in
     c .of .ensures
     ∙ ap stored
-    (order-gathered (given .n) proven held (given .pending .now) (gathered-all (given .n) proven held (given .pending .now) (longest-call .result .now)
-    (longest-call .ensures) (longest-short (given .n) (given .proven .now) (given .lengths .now) (given .reported)) (fill-call .last .0) (fill-call .ensures) (gather-call .ensures)
+    (order-gathered (given .n) proven held (given .pending .now) (assembled-all (given .n) proven held (given .pending .now) (longest-call .result .now)
+    (longest-call .ensures) (longest-short (given .n) (given .proven .now) (given .pcounts .now) (given .reported)) (fill-call .last .0) (fill-call .ensures) (gather-call .ensures)
     (append-call .result) (append-call .last .0) (append-call .ensures .0) (append-call .ensures .1) (append-call .kept .0))
     (put-in-order-call .last .0) (put-in-order-call .ensures))
 

@@ -1,5 +1,5 @@
 -- `site_lines::chunk` is safe and ends: the loop keeps that the index is within the bytes, and the lengths of the line and the output.
-use mathlib.Core.Path.{_≡_}
+use mathlib.Core.Path.{_≡_, _∙_}
 use Prim.Native.Nat.{_≤_, _-_}
 use borrow.Author.Needs.{needs}
 use lib.ListN.{length}
@@ -34,7 +34,10 @@ loop-less : tie.Need-loop-less Inv-loop μ-loop
 loop-less c = search needs
 
 loop-again : tie.Need-loop-again Inv-loop μ-loop
-loop-again c = (search needs, search needs, search needs)
+loop-again c =
+    let turn = c .before .before .before .before .before .before .before .before .before .before .before .before .before .loop .inv in
+    let line = c .before .before .before .before .before .before .before .before .before .push .kept .0 ∙ turn .1 in
+    (search needs, line, c .before .before .hear .kept .1 .1 .0 ∙ turn .2)
 
 loop-less-2 : tie.Need-loop-less-2 Inv-loop μ-loop
 loop-less-2 c = search needs

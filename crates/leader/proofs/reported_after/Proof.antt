@@ -1,8 +1,8 @@
--- `leader::marked` meets its contract: it sets the site's bit if the site reports.
+-- `leader::reported_after` meets its contract: it sets the site's bit if the site reports.
 -- Assumes nothing.
 use borrow.Author.Needs.{needs}
-use Rattle.leader.proofs.marked.Statement.{statement}
-use Rattle.leader.proofs.marked.Tie as tie
+use Rattle.leader.proofs.reported_after.Statement.{statement}
+use Rattle.leader.proofs.reported_after.Tie as tie
 
 with-site-requires : tie.Need-with-site-requires
 with-site-requires c κs = search needs
@@ -16,5 +16,5 @@ returns c =
 returns-2 : tie.Need-returns-2
 returns-2 c = search needs
 
-pub marked-spec : {M : Type 1} → statement M
-marked-spec = tie.close (tie.spec with-site-requires returns returns-2)
+pub reported-after-spec : {M : Type 1} → statement M
+reported-after-spec = tie.close (tie.spec with-site-requires returns returns-2)

@@ -1,11 +1,11 @@
--- `leader::order` meets its contract: the frame has the history by value as a list, and no other.
+-- `leader::p2a` meets its contract: the frame has the history by value as a list, and no other.
 -- Assumes nothing.
 use mathlib.Core.Path.{_∙_}
 use native.Mathlib.Omega.{arith}
 use Rattle.history.specs.WordsLaws.{commands-whole}
 use borrow.Author.Needs.{needs}
-use Rattle.leader.proofs.order.Statement.{statement}
-use Rattle.leader.proofs.order.Tie as tie
+use Rattle.leader.proofs.p2a.Statement.{statement}
+use Rattle.leader.proofs.p2a.Tie as tie
 
 cast-first : tie.Need-cast-first
 cast-first c = search needs
@@ -26,6 +26,6 @@ returns c =
     let given = c .before .before .before .before .before .before .args in
     message-call .ensures ∙ rw (first-call .ensures, commands-whole (given .t4) (omega arith))
 
-pub order-spec : {M : Type 1} → statement M
-order-spec =
+pub p2a-spec : {M : Type 1} → statement M
+p2a-spec =
     tie.close (tie.spec cast-first first-requires slice-aggregate-message message-requires returns)
