@@ -1,22 +1,88 @@
--- What the exported functions answer: the roles' outcomes, with the number of the answer in its place.
+-- What a call by a host gives: the roles' outcomes with the number of the answer in its place, and every byte of the buffer. What a lent record holds
+-- when the call is over stands in the outcome beside the answer.
+use mathlib.Core.Path.{_≡_}
+use mathlib.Core.List.{List}
+use Prim.Native.Nat.{ℕ}
+use Rattle.roster.specs.declared.Roster.{Roster}
+use Rattle.roster.specs.declared.View.{View}
 use Rattle.refusal.specs.Refusal.{answerNumber}
+use Rattle.site.specs.declared.ViewRecord.{ViewRecord}
+use Rattle.site.specs.Site as views
 use Rattle.acceptor.specs.declared.Outcome as accepting
+use Rattle.acceptor.specs.Acceptor as acceptor
 use Rattle.leader.specs.declared.Outcome as leading
-use Rattle.learner.specs.declared.Outcome.{Outcome}
-use Rattle.viewchange.specs.declared.Outcome as change
-use Rattle.speckleewe.specs.declared.AcceptorOutcome.{AcceptorOutcome}
+use Rattle.leader.specs.declared.State as leading-state
+use Rattle.leader.specs.Leader as leader
+use Rattle.learner.specs.declared.Outcome as learning
+use Rattle.learner.specs.declared.State.{State}
+use Rattle.learner.specs.Learner as learner
+use Rattle.viewchange.specs.declared.Outcome as changing
+use Rattle.viewchange.specs.ViewChange as change
 use Rattle.speckleewe.specs.declared.LeaderOutcome.{LeaderOutcome}
 use Rattle.speckleewe.specs.declared.LearnerOutcome.{LearnerOutcome}
+use Rattle.speckleewe.specs.declared.LearnerReply.{LearnerReply}
+use Rattle.speckleewe.specs.declared.Opening.{Opening}
+use Rattle.speckleewe.specs.declared.Reply.{Reply}
+use Rattle.speckleewe.specs.declared.Site.{Site}
+use Rattle.speckleewe.specs.declared.SiteOutcome.{SiteOutcome}
 use Rattle.speckleewe.specs.declared.ViewChangeOutcome.{ViewChangeOutcome}
 
-abbrev pub learnerOutcome : Outcome → LearnerOutcome
-learnerOutcome o = record { answer = answerNumber (o .answer); supporters = o .supporters; state = o .state }
+-- ---- the view change
 
-abbrev pub viewChangeOutcome : change.Outcome → ViewChangeOutcome
+-- a role's outcome with the answer's number; and an answer with the record that its call left
+abbrev pub viewChangeOutcome : changing.Outcome → ViewChangeOutcome
 viewChangeOutcome o = record { answer = answerNumber (o .answer); sent = o .sent; views = o .views }
 
-abbrev pub acceptorOutcome : accepting.Outcome → AcceptorOutcome
-acceptorOutcome o = record { answer = answerNumber (o .answer); sent = o .sent; state = o .state }
+abbrev pub viewsLeft : Reply → ViewRecord → ViewChangeOutcome
+viewsLeft r v = record { answer = r .answer; sent = r .sent; views = v }
+
+-- the record before, the roster, the own number, the line and the buffer before; the outcome and the buffer after
+abbrev pub changesView : ViewRecord → Roster → ℕ → List ℕ → List ℕ → ViewChangeOutcome → List ℕ → Type 0
+changesView v r own line out o buffer = (o ≡ viewChangeOutcome (change.returned r own v line out)) × (buffer ≡ change.output r own v line out)
+
+-- "The host's own suspicion enters as a SUSPICION from itself."
+abbrev pub suspects : ViewRecord → Roster → ℕ → View → List ℕ → ViewChangeOutcome → List ℕ → Type 0
+suspects v r own view = changesView v r own (change.ownSuspicion own view)
+
+-- ---- a site's acceptor: the view-change record stays
+
+abbrev pub siteOutcome : ViewRecord → accepting.Outcome → SiteOutcome
+siteOutcome v o = record { answer = answerNumber (o .answer); sent = o .sent; site = record { views = v; acceptor = o .state } }
+
+abbrev pub siteLeft : Reply → Site → SiteOutcome
+siteLeft r s = record { answer = r .answer; sent = r .sent; site = s }
+
+abbrev pub freshSite : Site
+freshSite = record { views = views.fresh; acceptor = acceptor.fresh }
+
+abbrev pub accepts : Site → Roster → ℕ → List ℕ → List ℕ → SiteOutcome → List ℕ → Type 0
+accepts s r own line out o buffer =
+    (o ≡ siteOutcome (s .views) (acceptor.returned r own (s .views) (s .acceptor) line out))
+    × (buffer ≡ acceptor.output r own (s .views) (s .acceptor) line out)
+
+-- ---- a leader: its step, and the opening of a ballot
 
 abbrev pub leaderOutcome : leading.Outcome → LeaderOutcome
 leaderOutcome o = record { answer = answerNumber (o .answer); sent = o .sent; state = o .state }
+
+abbrev pub leaderLeft : Reply → leading-state.State → LeaderOutcome
+leaderLeft r s = record { answer = r .answer; sent = r .sent; state = s }
+
+abbrev pub leads : leading-state.State → Roster → ℕ → List ℕ → List ℕ → LeaderOutcome → List ℕ → Type 0
+leads s r own line out o buffer = (o ≡ leaderOutcome (leader.returned r own s line out)) × (buffer ≡ leader.output r own s line out)
+
+abbrev pub opens : leading-state.State → Roster → ℕ → Opening → List ℕ → LeaderOutcome → List ℕ → Type 0
+opens s r own p out o buffer =
+    (o ≡ leaderOutcome (leader.openingReturned r own s (p .ballot) (p .fast) out))
+    × (buffer ≡ leader.openingOutput r own s (p .ballot) (p .fast) out)
+
+-- ---- a learner
+
+abbrev pub learnerOutcome : learning.Outcome → LearnerOutcome
+learnerOutcome o = record { answer = answerNumber (o .answer); supporters = o .supporters; state = o .state }
+
+abbrev pub learnerLeft : LearnerReply → State → LearnerOutcome
+learnerLeft r s = record { answer = r .answer; supporters = r .supporters; state = s }
+
+abbrev pub learns : State → Roster → List ℕ → LearnerOutcome → Type 0
+learns s r line o = o ≡ learnerOutcome (learner.step r s line)

@@ -1,181 +1,348 @@
-// Everything that a C or Rust host calls: each function hands its arguments to the proved step of a role. A slice is passed as a pointer to its
-// first byte and its length.
+// Everything that a C or Rust host calls. The host lends a role's record, and each call changes it in place: it copies the record, takes the proved
+// step by value, and stores the record that the step gives. A slice is passed as a pointer to its first byte and its length.
 ghost use mathlib.Core.Path.{_≡_};
-ghost use Rattle.acceptor.specs.Acceptor as accepting;
+ghost use Rattle.frame.specs.Layout.{longest};
 ghost use Rattle.leader.specs.Leader as leading;
 ghost use Rattle.learner.specs.Learner as learning;
-ghost use Rattle.site.specs.Site as views;
-ghost use Rattle.viewchange.specs.ViewChange as change;
-ghost use Rattle.speckleewe.specs.Outcomes.{acceptorOutcome, leaderOutcome, learnerOutcome, viewChangeOutcome};
+ghost use Rattle.site.specs.Site as fresh;
+ghost use Rattle.speckleewe.specs.Outcomes.{accepts, changesView, freshSite, leaderLeft, leaderOutcome, leads, learnerLeft, learns, opens, siteLeft, suspects, viewChangeOutcome, viewsLeft};
 use learner::State;
 use roster::Ballot;
 use roster::Roster;
+use roster::View;
 use site::ViewRecord;
 
-// What a learner's step answers: the answer's number, the supporters, and the state after it.
+// What a call that may send answers: the answer's number, and how many bytes of the buffer are to be sent.
 #[repr(C)]
-pub struct LearnerOutcome {
+pub struct Reply {
+    pub answer: u8,
+    pub sent: usize,
+}
+
+// What a learner's call answers: the answer's number, and the supporters.
+#[repr(C)]
+pub struct LearnerReply {
     pub answer: u8,
     pub supporters: u8,
-    pub state: State,
 }
 
-// What a step of the view change answers: the answer's number, how many bytes of the buffer are to be sent, and the record after it.
+// What a site's acceptor is lent: the site's view-change record, which is also lent to the view change, and the acceptor's state.
 #[repr(C)]
-pub struct ViewChangeOutcome {
-    pub answer: u8,
-    pub sent: usize,
+pub struct Site {
     pub views: ViewRecord,
+    pub acceptor: acceptor::State,
 }
 
-// What an acceptor's step answers: the answer's number, how many bytes of the buffer are to be sent, and the state after it.
+// What a step of the view change gives: the answer's number, how many bytes of the buffer are to be sent, and the record after it.
+struct ViewChangeOutcome {
+    answer: u8,
+    sent: usize,
+    views: ViewRecord,
+}
+
+// What an acceptor's step gives: the answer's number, how many bytes of the buffer are to be sent, and the site after it.
+struct SiteOutcome {
+    answer: u8,
+    sent: usize,
+    site: Site,
+}
+
+// A ballot that a leader is to open, a classic one where `fast` is 0.
 #[repr(C)]
-pub struct AcceptorOutcome {
-    pub answer: u8,
-    pub sent: usize,
-    pub state: acceptor::State,
+pub struct Opening {
+    pub ballot: Ballot,
+    pub fast: u8,
 }
 
-// What a leader's call answers: the answer's number, how many bytes of the buffer are to be sent, and the state after it.
-#[repr(C)]
-pub struct LeaderOutcome {
-    pub answer: u8,
-    pub sent: usize,
-    pub state: leader::State,
+// What a leader's call gives: the answer's number, how many bytes of the buffer are to be sent, and the state after it.
+struct LeaderOutcome {
+    answer: u8,
+    sent: usize,
+    state: leader::State,
 }
 
-// A fresh learner: nothing stored, nothing learned.
-#[no_mangle]
-pub extern "C" fn learner_fresh() -> State
-    ensures { λ s. ⌜ s ≡ learning.fresh ⌝ }
-{
-    State::fresh()
-}
-
-// One step of a learner.
-#[no_mangle]
-pub extern "C" fn learner_step(roster: Roster, state: State, line: &[u8]) -> LearnerOutcome
-    ensures { λ o. ⌜ o ≡ learnerOutcome (learning.step roster state (now (line .entry))) ⌝ }
-{
-    let o = learner::step(roster, state, line);
-    let answer = o.answer;
-    let after = o.state;
-    LearnerOutcome {
-        answer: answer.number(),
-        supporters: o.supporters,
-        state: after,
-    }
+// What a learner's step gives: the answer's number, the supporters, and the state after it.
+struct LearnerOutcome {
+    answer: u8,
+    supporters: u8,
+    state: State,
 }
 
 // A fresh view-change record: view 0, no suspicion, no target.
 #[no_mangle]
-pub extern "C" fn view_record_fresh() -> ViewRecord
-    ensures { λ v. ⌜ v ≡ views.fresh ⌝ }
+pub extern "C" fn speckleewe_view_record_fresh() -> ViewRecord
+    ensures { λ v. ⌜ v ≡ fresh.fresh ⌝ }
 {
     ViewRecord::fresh()
 }
 
-// One step of the view change of site `own`.
+// A fresh site: a fresh record, and an acceptor with all 0 and empty.
 #[no_mangle]
-pub extern "C" fn view_change_step(
-    roster: Roster,
-    own: u8,
-    views: ViewRecord,
-    line: &[u8],
-    out: &mut [u8],
-) -> ViewChangeOutcome
-    ensures { λ o. ⌜ (o ≡ viewChangeOutcome (change.returned roster own views (now (line .entry)) (now (out .entry)))) × (now (out .exit) ≡ change.output roster own views (now (line .entry)) (now (out .entry))) ⌝ }
+pub extern "C" fn speckleewe_site_fresh() -> Site
+    ensures { λ s. ⌜ s ≡ freshSite ⌝ }
 {
-    let o = viewchange::step(roster, own, views, line, out);
-    let given = o.answer;
-    let after = o.views;
-    ViewChangeOutcome {
-        answer: given.number(),
-        sent: o.sent,
-        views: after,
-    }
-}
-
-// A fresh acceptor: all 0 and empty.
-#[no_mangle]
-pub extern "C" fn acceptor_fresh() -> acceptor::State
-    ensures { λ s. ⌜ s ≡ accepting.fresh ⌝ }
-{
-    acceptor::State::fresh()
-}
-
-// One step of the acceptor of site `own`, in the view of its view-change record.
-#[no_mangle]
-pub extern "C" fn acceptor_step(
-    roster: Roster,
-    own: u8,
-    views: ViewRecord,
-    state: acceptor::State,
-    line: &[u8],
-    out: &mut [u8],
-) -> AcceptorOutcome
-    ensures { λ o. ⌜ (o ≡ acceptorOutcome (accepting.returned roster own views state (now (line .entry)) (now (out .entry)))) × (now (out .exit) ≡ accepting.output roster own views state (now (line .entry)) (now (out .entry))) ⌝ }
-{
-    let o = acceptor::step(roster, own, views, state, line, out);
-    let said = o.answer;
-    let bytes = o.sent;
-    let next = o.state;
-    AcceptorOutcome {
-        answer: said.number(),
-        sent: bytes,
-        state: next,
+    Site {
+        views: ViewRecord::fresh(),
+        acceptor: acceptor::State::fresh(),
     }
 }
 
 // A fresh leader: all 0 and empty.
 #[no_mangle]
-pub extern "C" fn leader_fresh() -> leader::State
+pub extern "C" fn speckleewe_leader_fresh() -> leader::State
     ensures { λ s. ⌜ s ≡ leading.fresh ⌝ }
 {
     leader::State::fresh()
 }
 
-// A leader's outcome with its answer's number.
-fn numbered(o: leader::Outcome) -> LeaderOutcome
+// The longest line, with its line feed.
+#[no_mangle]
+pub extern "C" fn speckleewe_longest_line() -> usize
+    ensures { λ n. ⌜ n ≡ longest ⌝ }
+{
+    frame::LONGEST
+}
+
+// A fresh learner: nothing stored, nothing learned.
+#[no_mangle]
+pub extern "C" fn speckleewe_learner_fresh() -> State
+    ensures { λ s. ⌜ s ≡ learning.fresh ⌝ }
+{
+    State::fresh()
+}
+
+// The view change's outcome, with its answer's number.
+fn numbered(o: viewchange::Outcome) -> ViewChangeOutcome
+    ensures { λ n. ⌜ n ≡ viewChangeOutcome o ⌝ }
+{
+    let given = o.answer;
+    let length = o.sent;
+    let after = o.views;
+    ViewChangeOutcome {
+        answer: given.number(),
+        sent: length,
+        views: after,
+    }
+}
+
+// A step of the view change of site `own`, by value.
+fn view_change_by_value<'a>(
+    views: ViewRecord,
+    roster: Roster,
+    own: u8,
+    line: &'a [u8],
+    out: &'a mut [u8],
+) -> ViewChangeOutcome
+    ensures { λ o. ⌜ changesView views roster own (now (line .entry)) (now (out .entry)) o (now (out .exit)) ⌝ }
+{
+    let o = viewchange::step(roster, own, views, line, out);
+    numbered(o)
+}
+
+// A step of the view change of site `own` on the record that the host lends.
+#[no_mangle]
+pub extern "C" fn speckleewe_view_change<'a>(
+    views: &mut ViewRecord,
+    roster: Roster,
+    own: u8,
+    line: &'a [u8],
+    out: &'a mut [u8],
+) -> Reply
+    ensures { λ r. ⌜ changesView (now (views .entry)) roster own (now (line .entry)) (now (out .entry)) (viewsLeft r (now (views .exit))) (now (out .exit)) ⌝ }
+{
+    let before = *views;
+    let o = view_change_by_value(before, roster, own, line, out);
+    *views = o.views;
+    Reply {
+        answer: o.answer,
+        sent: o.sent,
+    }
+}
+
+// The suspicion of site `own` itself of a view, by value.
+fn suspicion_by_value(
+    views: ViewRecord,
+    roster: Roster,
+    own: u8,
+    view: View,
+    out: &mut [u8],
+) -> ViewChangeOutcome
+    ensures { λ o. ⌜ suspects views roster own view (now (out .entry)) o (now (out .exit)) ⌝ }
+{
+    let o = viewchange::suspicion(roster, own, views, view, out);
+    numbered(o)
+}
+
+// The suspicion of site `own` itself of a view, on the record that the host lends.
+#[no_mangle]
+pub extern "C" fn speckleewe_suspicion(
+    views: &mut ViewRecord,
+    roster: Roster,
+    own: u8,
+    view: View,
+    out: &mut [u8],
+) -> Reply
+    ensures { λ r. ⌜ suspects (now (views .entry)) roster own view (now (out .entry)) (viewsLeft r (now (views .exit))) (now (out .exit)) ⌝ }
+{
+    let before = *views;
+    let o = suspicion_by_value(before, roster, own, view, out);
+    *views = o.views;
+    Reply {
+        answer: o.answer,
+        sent: o.sent,
+    }
+}
+
+// A step of the acceptor of site `own`, by value, in the view of its view-change record.
+fn acceptor_by_value<'a>(
+    site: Site,
+    roster: Roster,
+    own: u8,
+    line: &'a [u8],
+    out: &'a mut [u8],
+) -> SiteOutcome
+    ensures { λ o. ⌜ accepts site roster own (now (line .entry)) (now (out .entry)) o (now (out .exit)) ⌝ }
+{
+    let views = site.views;
+    let state = site.acceptor;
+    let o = acceptor::step(roster, own, views, state, line, out);
+    let said = o.answer;
+    let bytes = o.sent;
+    let acceptor = o.state;
+    SiteOutcome {
+        answer: said.number(),
+        sent: bytes,
+        site: Site { views, acceptor },
+    }
+}
+
+// A step of the acceptor of site `own` on the site that the host lends.
+#[no_mangle]
+pub extern "C" fn speckleewe_acceptor<'a>(
+    site: &mut Site,
+    roster: Roster,
+    own: u8,
+    line: &'a [u8],
+    out: &'a mut [u8],
+) -> Reply
+    ensures { λ r. ⌜ accepts (now (site .entry)) roster own (now (line .entry)) (now (out .entry)) (siteLeft r (now (site .exit))) (now (out .exit)) ⌝ }
+{
+    let before = *site;
+    let o = acceptor_by_value(before, roster, own, line, out);
+    *site = o.site;
+    Reply {
+        answer: o.answer,
+        sent: o.sent,
+    }
+}
+
+// A leader's outcome, with its answer's number.
+fn told(o: leader::Outcome) -> LeaderOutcome
     ensures { λ n. ⌜ n ≡ leaderOutcome o ⌝ }
 {
     let heard = o.answer;
-    let length = o.sent;
+    let bytes_sent = o.sent;
     let kept = o.state;
     LeaderOutcome {
         answer: heard.number(),
-        sent: length,
+        sent: bytes_sent,
         state: kept,
     }
 }
 
-// One step of the leader of site `own`.
-#[no_mangle]
-pub extern "C" fn leader_step(
+// A step of the leader of site `own`, by value.
+fn leader_by_value<'a>(
+    state: leader::State,
     roster: Roster,
     own: u8,
-    state: leader::State,
-    line: &[u8],
-    out: &mut [u8],
+    line: &'a [u8],
+    out: &'a mut [u8],
 ) -> LeaderOutcome
-    ensures { λ o. ⌜ (o ≡ leaderOutcome (leading.returned roster own state (now (line .entry)) (now (out .entry)))) × (now (out .exit) ≡ leading.output roster own state (now (line .entry)) (now (out .entry))) ⌝ }
+    ensures { λ o. ⌜ leads state roster own (now (line .entry)) (now (out .entry)) o (now (out .exit)) ⌝ }
 {
     let o = leader::step(roster, own, state, line, out);
-    numbered(o)
+    told(o)
 }
 
-// The leader of site `own` opens a ballot, a classic one where `fast` is 0.
+// A step of the leader of site `own` on the state that the host lends.
 #[no_mangle]
-pub extern "C" fn leader_open_ballot(
+pub extern "C" fn speckleewe_leader<'a>(
+    state: &mut leader::State,
     roster: Roster,
     own: u8,
+    line: &'a [u8],
+    out: &'a mut [u8],
+) -> Reply
+    ensures { λ r. ⌜ leads (now (state .entry)) roster own (now (line .entry)) (now (out .entry)) (leaderLeft r (now (state .exit))) (now (out .exit)) ⌝ }
+{
+    let before = *state;
+    let o = leader_by_value(before, roster, own, line, out);
+    *state = o.state;
+    Reply {
+        answer: o.answer,
+        sent: o.sent,
+    }
+}
+
+// The opening of a ballot by the leader of site `own`, by value.
+fn opening_by_value(
     state: leader::State,
-    ballot: Ballot,
-    fast: u8,
+    roster: Roster,
+    own: u8,
+    opening: Opening,
     out: &mut [u8],
 ) -> LeaderOutcome
-    ensures { λ o. ⌜ (o ≡ leaderOutcome (leading.openingReturned roster own state ballot fast (now (out .entry)))) × (now (out .exit) ≡ leading.openingOutput roster own state ballot fast (now (out .entry))) ⌝ }
+    ensures { λ o. ⌜ opens state roster own opening (now (out .entry)) o (now (out .exit)) ⌝ }
 {
-    let o = leader::open_ballot(roster, own, state, ballot, fast, out);
-    numbered(o)
+    let o = leader::open_ballot(roster, own, state, opening.ballot, opening.fast, out);
+    told(o)
+}
+
+// The opening of a ballot by the leader of site `own` on the state that the host lends.
+#[no_mangle]
+pub extern "C" fn speckleewe_open_ballot(
+    state: &mut leader::State,
+    roster: Roster,
+    own: u8,
+    opening: Opening,
+    out: &mut [u8],
+) -> Reply
+    ensures { λ r. ⌜ opens (now (state .entry)) roster own opening (now (out .entry)) (leaderLeft r (now (state .exit))) (now (out .exit)) ⌝ }
+{
+    let before = *state;
+    let o = opening_by_value(before, roster, own, opening, out);
+    *state = o.state;
+    Reply {
+        answer: o.answer,
+        sent: o.sent,
+    }
+}
+
+// A step of a learner, by value.
+fn learner_by_value(state: State, roster: Roster, line: &[u8]) -> LearnerOutcome
+    ensures { λ o. ⌜ learns state roster (now (line .entry)) o ⌝ }
+{
+    let o = learner::step(roster, state, line);
+    let answer = o.answer;
+    let counted = o.supporters;
+    let learned = o.state;
+    LearnerOutcome {
+        answer: answer.number(),
+        supporters: counted,
+        state: learned,
+    }
+}
+
+// A step of a learner on the state that the host lends.
+#[no_mangle]
+pub extern "C" fn speckleewe_learner(state: &mut State, roster: Roster, line: &[u8]) -> LearnerReply
+    ensures { λ r. ⌜ learns (now (state .entry)) roster (now (line .entry)) (learnerLeft r (now (state .exit))) ⌝ }
+{
+    let before = *state;
+    let o = learner_by_value(before, roster, line);
+    *state = o.state;
+    LearnerReply {
+        answer: o.answer,
+        supporters: o.supporters,
+    }
 }

@@ -1,8 +1,9 @@
 -- What the code's tests say in the words of the definitions.
-use mathlib.Core.Path.{_≡_, _∙_}
+use mathlib.Core.Path.{_≡_, refl, sym, ap, _∙_}
 use mathlib.Core.Bool.{Bool, true, false, not, _&&_, _||_}
 use mathlib.Core.List.{List}
-use Prim.Native.Nat.{ℕ, _+_}
+use Prim.Native.Nat.{ℕ, _+_, _<_, _^_}
+use borrow.Author.Tests.{lt-leb}
 use lib.Dec.{leb, ltb, eqb}
 use Rattle.roster.specs.declared.Roster.{Roster}
 use Rattle.roster.specs.declared.View.{View}
@@ -16,6 +17,8 @@ use Rattle.frame.specs.Format.{readingOf, malformed}
 use Rattle.site.specs.declared.ViewRecord.{ViewRecord}
 use Rattle.site.specs.Reply.{silent, sends, sendsIf, Reply, refuse, accept, lengthSent, buffer}
 use Rattle.viewchange.specs.declared.Decision.{Decision}
+use Rattle.viewchange.specs.declared.Outcome.{Outcome}
+use Rattle.viewchange.specs.ViewChangeLaws.{configured-is, own-read}
 use Rattle.viewchange.specs.Decision.{replied}
 use Rattle.viewchange.specs.ViewChange.{
   suspicionKind,
@@ -38,6 +41,7 @@ use Rattle.viewchange.specs.ViewChange.{
   changed,
   join,
   accepted,
+  ownSuspicion,
   heard,
   step,
   outcome,
@@ -151,10 +155,24 @@ module _ (r : Roster) (own room : ℕ) (v : ViewRecord) (line : List ℕ) (c : c
     unfolding sender
     step-heard p q = rw e (read-frame (rw e at p) (rw e at q))
 
+-- ---- the host's own suspicion is a line that is read, from one of the sites
+
+pub step-own : (r : Roster) (own room : ℕ) (v : ViewRecord) (view : View) → config r own room v ≡ false → own < 256 → view .0 < 2 ^ 32
+    → heard r own v (notice suspicionKind own (view .0) 0) ≡ step r own room v (ownSuspicion own view)
+unfolding notice
+step-own r own room v view c a b =
+    step-heard r own room v (ownSuspicion own view) c (record { found = true; frame = notice suspicionKind own (view .0) 0 })
+    (sym (own-read own view a b)) refl (lt-leb (r .n) own (configured-is r own room v c .seat .member))
+
 -- ---- what is handed over: d is the decision, m the frame made of it, k the length of its line and l the buffer
 
-module _ (own : ℕ) (out : List ℕ) (o : Reply ViewRecord) (d : Decision) (m : Frame) (e : replied own d ≡ o)
-    (f : m ≡ notice (d .kind) own (d .view .0) (d .mask)) where
-  pub handed : (k : ℕ) (l : List ℕ) → (k ≡ lengthSent (sendsIf (d .sends) m) out) × (l ≡ buffer (sendsIf (d .sends) m) out)
-      → (record { answer = d .answer; sent = k; views = d .views } ≡ outcome o out) × (l ≡ buffer (o .sending) out)
-  handed k l p = (rw (← e, p .0, f), p .1 ∙ rw (← e, f))
+module _ (own : ℕ) (out : List ℕ) (d : Decision) where
+  pub handed : (m : Frame) → m ≡ notice (d .kind) own (d .view .0) (d .mask)
+      → (k : ℕ) (l : List ℕ) → (k ≡ lengthSent (sendsIf (d .sends) m) out) × (l ≡ buffer (sendsIf (d .sends) m) out)
+      → (record { answer = d .answer; sent = k; views = d .views } ≡ outcome (replied own d) out) × (l ≡ buffer (replied own d .sending) out)
+  handed m f k l p = (rw (p .0, f), p .1 ∙ rw f)
+
+  -- o is the reply that the decision stands for
+  pub answered : (o : Reply ViewRecord) → replied own d ≡ o → (x : Outcome) (l : List ℕ)
+      → (x ≡ outcome (replied own d) out) × (l ≡ buffer (replied own d .sending) out) → (x ≡ outcome o out) × (l ≡ buffer (o .sending) out)
+  answered o e x l p = (p .0 ∙ ap (λ (y : Reply ViewRecord). outcome y out) e, p .1 ∙ ap (λ (y : Reply ViewRecord). buffer (y .sending) out) e)

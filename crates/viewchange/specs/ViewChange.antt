@@ -5,13 +5,14 @@ use Prim.Native.Nat.{ℕ, _+_}
 use lib.Dec.{leb, ltb, eqb}
 use lib.ListN.{length, replicate}
 use Rattle.roster.specs.declared.Roster.{Roster}
+use Rattle.roster.specs.declared.View.{View}
 use Rattle.roster.specs.Roster.{quorum, weakCertificate}
 use Rattle.roster.specs.Mask.{reaches, beyond, withSite}
 use Rattle.refusal.specs.declared.Refusal.the-variants.{Config, Form, Sender, Stale, Proof, Full}
 use Rattle.refusal.specs.Rules.{Rule, _gives_, judged}
 use Rattle.frame.specs.declared.Frame.{Frame}
 use Rattle.frame.specs.Layout.{capacity}
-use Rattle.frame.specs.Format.{readingOf, malformed}
+use Rattle.frame.specs.Format.{lineOf, readingOf, malformed}
 use Rattle.site.specs.declared.ViewRecord.{ViewRecord}
 use Rattle.site.specs.Site.{seated, validRecord}
 use Rattle.site.specs.Reply.{silent, sends, Reply, refuse, accept, lengthSent, buffer}
@@ -154,6 +155,10 @@ heard r own v m = judged (refuse v) (accepted r own v m) (kindRules r v m)
 -- what a call does; `room` is the length of the lent buffer
 unfoldable pub step : Roster → ℕ → ℕ → ViewRecord → List ℕ → Reply ViewRecord
 step r own room v line = judged (refuse v) (accepted r own v (received line)) (rules r own room v line)
+
+-- "The host's own suspicion enters as a SUSPICION from itself": the line of that frame, of a view
+abbrev pub ownSuspicion : ℕ → View → List ℕ
+ownSuspicion own view = lineOf (notice suspicionKind own (view .0) 0)
 
 -- what it returns: the answer, how many bytes of the buffer are to be sent, and the record
 abbrev pub outcome : Reply ViewRecord → List ℕ → Outcome

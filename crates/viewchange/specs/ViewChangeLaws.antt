@@ -11,6 +11,7 @@ use lib.Count.{ones, onesIn}
 use lib.Dec.{leb, eqb, lit<}
 use lib.ListN.{length}
 use Rattle.roster.specs.declared.Roster.{Roster}
+use Rattle.roster.specs.declared.View.{View}
 use Rattle.roster.specs.Roster.{validRoster, quorum}
 use Rattle.roster.specs.RosterLaws.{valid-figures}
 use Rattle.roster.specs.Sites.{allTo}
@@ -23,7 +24,7 @@ use Rattle.frame.specs.declared.Frame.{Frame}
 use Rattle.frame.specs.Hex.{allFit}
 use Rattle.frame.specs.Kinds.{uses, isKind, unusedZero, zeroUnless}
 use Rattle.frame.specs.Format.{frameOf, readingOf, malformed, proper, allZero, fits, writable}
-use Rattle.frame.specs.FormatLaws.{found-taken, found-frame}
+use Rattle.frame.specs.FormatLaws.{frame-of-line, line-is-line, reading-line, found-taken, found-frame}
 use Rattle.site.specs.declared.ViewRecord.{ViewRecord}
 use Rattle.site.specs.Site.{seated, validRecord, fresh}
 use Rattle.site.specs.SiteLaws.{Seated, seated-is, Inside, valid-inside, inside-valid, fresh-inside}
@@ -32,6 +33,7 @@ use Rattle.site.specs.Reply.{silent, sends, Reply, refuse, accept}
 use Rattle.site.specs.ReplyLaws.{silent-sends, sends-same, Sent, sent-line}
 use Rattle.viewchange.specs.ViewChange.{
   suspicionKind,
+  ownSuspicion,
   changeKind,
   leaderKind,
   taken,
@@ -216,6 +218,24 @@ module _ (own view mask : ℕ) (a : own < 256) (b : view < 2 ^ 32) (c : mask < 2
   leader-writable : writable (notice leaderKind own view mask) ≡ true
   unfolding notice writable proper isKind uses unusedZero zeroUnless allZero fits allFit
   leader-writable = rw (lt-ltb own 256 a, lt-ltb view (2 ^ 32) b, lt-ltb mask (2 ^ 16) c)
+
+-- so has the host's own suspicion, and its line is read as that SUSPICION
+module _ (own : ℕ) (view : View) (a : own < 256) (b : view .0 < 2 ^ 32) where
+  abbrev own-frame : Frame
+  own-frame = notice suspicionKind own (view .0) 0
+
+  own-writable : writable own-frame ≡ true
+  unfolding notice writable proper isKind uses unusedZero zeroUnless allZero fits allFit
+  own-writable = rw (lt-ltb own 256 a, lt-ltb (view .0) (2 ^ 32) b)
+
+  own-taken : bit taken (own-frame .kind) ≡ true
+  unfolding notice
+  own-taken = taken-is suspicionKind
+
+  pub own-read : readingOf (ownSuspicion own view) taken ≡ record { found = true; frame = own-frame }
+  own-read =
+      reading-line (ownSuspicion own view) taken (line-is-line own-frame own-writable) (rw (frame-of-line own-frame own-writable) own-taken)
+      ∙ ap (λ (m : Frame). record { found = true; frame = m }) (frame-of-line own-frame own-writable)
 
 -- the next view fits where FULL lets pass
 next-fits : (r : Roster) (v : ViewRecord) (m : Frame) → isSuspicion m ≡ true → sets r v m ≡ true → full r v m ≡ false → v .view .0 + 1 < 2 ^ 32

@@ -1,5 +1,6 @@
 // View change: sites that suspect the leader of a view agree on the next one.
 ghost use mathlib.Core.Path.{_≡_};
+ghost use Rattle.site.specs.Reply as reply;
 ghost use Rattle.viewchange.specs.ViewChange as spec;
 ghost use Rattle.viewchange.specs.Decision as decision;
 use frame::Frame;
@@ -219,19 +220,45 @@ fn notice(kind: u8, own: u8, view: View, mask: u16) -> Frame
     }
 }
 
+// Hands over the frame that a decision of `own` names, and answers.
+fn answer(own: u8, d: Decision, out: &mut [u8]) -> Outcome
+    ensures { λ o. ⌜ (o ≡ spec.outcome (decision.replied own d) (now (out .entry))) × (now (out .exit) ≡ reply.buffer (decision.replied own d .sending) (now (out .entry))) ⌝ }
+{
+    let view = d.view;
+    let m = notice(d.kind, own, view, d.mask);
+    let sent = site::hand_over(d.sends, m, out);
+    let given = d.answer;
+    let views = d.views;
+    Outcome {
+        answer: given,
+        sent,
+        views,
+    }
+}
+
 // One step: the answer to a line, how much of the buffer is to be sent, and the record after it. Any line is answered, in any state.
 pub fn step(r: Roster, own: u8, v: ViewRecord, line: &[u8], out: &mut [u8]) -> Outcome
     ensures { λ o. ⌜ (o ≡ spec.returned r own v (now (line .entry)) (now (out .entry))) × (now (out .exit) ≡ spec.output r own v (now (line .entry)) (now (out .entry))) ⌝ }
 {
     let d = decide(r, own, out.len(), v, line);
-    let view = d.view;
-    let m = notice(d.kind, own, view, d.mask);
-    let sent = site::hand_over(d.sends, m, out);
-    let answer = d.answer;
-    let views = d.views;
-    Outcome {
-        answer,
-        sent,
-        views,
+    answer(own, d, out)
+}
+
+// What the host's own suspicion of a view gives, where there is so much room.
+fn decide_own(r: Roster, own: u8, room: usize, v: ViewRecord, view: View) -> Decision
+    ensures { λ d. ⌜ decision.replied own d ≡ spec.step r own room v (spec.ownSuspicion own view) ⌝ }
+{
+    let barred = config(r, own, room, v);
+    if barred {
+        return refuse(v, Refusal::Config);
     }
+    suspect(r, own, v, own, view)
+}
+
+// The host's own suspicion of a view: it enters as a SUSPICION from itself.
+pub fn suspicion(r: Roster, own: u8, v: ViewRecord, view: View, out: &mut [u8]) -> Outcome
+    ensures { λ o. ⌜ (o ≡ spec.returned r own v (spec.ownSuspicion own view) (now (out .entry))) × (now (out .exit) ≡ spec.output r own v (spec.ownSuspicion own view) (now (out .entry))) ⌝ }
+{
+    let d = decide_own(r, own, out.len(), v, view);
+    answer(own, d, out)
 }

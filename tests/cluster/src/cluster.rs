@@ -50,7 +50,7 @@ impl Cluster {
         Cluster {
             sites: (0..n).map(|i| plan.honest(i).then(|| Site::new(i))).collect(),
             leaders: (0..n).map(Leader::new).collect(),
-            learners: (0..plan.learners).map(|_| library::learner_fresh()).collect(),
+            learners: (0..plan.learners).map(|_| library::speckleewe_learner_fresh()).collect(),
             network: Network::default(),
             host: Host::default(),
             watch: Watch::new(plan.learners),

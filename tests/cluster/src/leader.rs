@@ -28,7 +28,7 @@ pub struct Called {
 impl Leader {
     /// A fresh leader.
     pub fn new(site: u8) -> Leader {
-        Leader { site, state: library::leader_fresh(), last: None }
+        Leader { site, state: library::speckleewe_leader_fresh(), last: None }
     }
 
     /// A call, now and then with too short a buffer.

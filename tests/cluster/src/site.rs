@@ -32,7 +32,7 @@ impl Site {
     pub fn new(number: u8) -> Site {
         Site {
             number,
-            views: library::view_record_fresh(),
+            views: library::speckleewe_view_record_fresh(),
             acceptor: library::acceptor_fresh(),
             last: BTreeMap::new(),
         }

@@ -179,6 +179,12 @@ pub fn write(f: Fields, first: &[Command], second: &[Command]) -> Vec<u8> {
     encode(&fields, &[first, second].concat())
 }
 
+/// A site's SUSPICION of a view.
+pub fn suspicion(own: u8, view: u32) -> Vec<u8> {
+    let f = Fields { view, ..Fields::of(SUSPICION, own) };
+    write(f, &[], &[])
+}
+
 /// Puts a line at the front of the output buffer; its length is what is sent.
 pub fn send(line: Option<Vec<u8>>, out: &mut [u8]) -> usize {
     let line = line.unwrap_or_default();

@@ -1,50 +1,51 @@
-//! The library's functions, each once: its name, the model's function, what
-//! goes in (records by value), and what comes back. A line and an output
-//! buffer go in as pointer and length.
+//! The library's functions, each once: its name, what goes in and comes back,
+//! and what a model makes of it. A record is lent and changed in place; a line
+//! and an output buffer go in as pointer and length.
 
-/// Hands each function to a macro.
+/// Hands each function that makes a record to a macro.
 #[macro_export]
-macro_rules! functions {
+macro_rules! fresh_records {
     ($each:ident) => {
-        $each!(learner_fresh = Learner::fresh: () -> Learner);
-        $each!(learner_step = learner::step:
-            (roster: [&Roster], state: [&Learner]; line line) -> LearnerOutcome);
-        $each!(view_record_fresh = ViewRecord::fresh: () -> ViewRecord);
-        $each!(view_change_step = viewchange::step:
-            (roster: [&Roster], own: [u8], views: [&ViewRecord]; line line; out out)
-            -> ViewChangeOutcome);
-        $each!(acceptor_fresh = Acceptor::fresh: () -> Acceptor);
-        $each!(acceptor_step = acceptor::step:
-            (roster: [&Roster], own: [u8], views: [&ViewRecord], state: [&Acceptor];
-            line line; out out) -> AcceptorOutcome);
-        $each!(leader_fresh = Leader::fresh: () -> Leader);
-        $each!(leader_step = leader::step:
-            (roster: [&Roster], own: [u8], state: [&Leader]; line line; out out)
-            -> LeaderOutcome);
-        $each!(leader_open_ballot = leader::open_ballot:
-            (roster: [&Roster], own: [u8], state: [&Leader], ballot: [Ballot], fast: [u8];
-            out out) -> LeaderOutcome);
+        $each!(speckleewe_learner_fresh = Learner);
+        $each!(speckleewe_view_record_fresh = ViewRecord);
+        $each!(speckleewe_site_fresh = Site);
+        $each!(speckleewe_leader_fresh = Leader);
     };
 }
 
-/// The type that goes in where the models take a value or a reference.
+/// Hands each function that changes a record to a macro.
 #[macro_export]
-macro_rules! by_value {
-    (& $type:ident) => {
-        $type
-    };
-    ($type:ident) => {
-        $type
-    };
-}
-
-/// What the models take of a value that came in.
-#[macro_export]
-macro_rules! as_taken {
-    ([& $type:ident] $value:ident) => {
-        &$value
-    };
-    ([$type:ident] $value:ident) => {
-        $value
+macro_rules! calls {
+    ($each:ident) => {
+        $each!(speckleewe_learner(s: Learner, r: Roster; line line) -> LearnerReply {
+            let o = learner::step(&r, s, line);
+            *s = o.state;
+            LearnerReply { answer: o.answer, supporters: o.supporters }
+        });
+        $each!(speckleewe_view_change(v: ViewRecord, r: Roster, own: u8; line line; out out) -> Reply {
+            let o = viewchange::step(&r, own, v, line, out);
+            *v = o.views;
+            Reply { answer: o.answer, sent: o.sent }
+        });
+        $each!(speckleewe_suspicion(v: ViewRecord, r: Roster, own: u8, view: View; out out) -> Reply {
+            let o = viewchange::step(&r, own, v, &frames::suspicion(own, view.0), out);
+            *v = o.views;
+            Reply { answer: o.answer, sent: o.sent }
+        });
+        $each!(speckleewe_acceptor(s: Site, r: Roster, own: u8; line line; out out) -> Reply {
+            let o = acceptor::step(&r, own, &s.views, &s.acceptor, line, out);
+            s.acceptor = o.state;
+            Reply { answer: o.answer, sent: o.sent }
+        });
+        $each!(speckleewe_leader(s: Leader, r: Roster, own: u8; line line; out out) -> Reply {
+            let o = leader::step(&r, own, s, line, out);
+            *s = o.state;
+            Reply { answer: o.answer, sent: o.sent }
+        });
+        $each!(speckleewe_open_ballot(s: Leader, r: Roster, own: u8, p: Opening; out out) -> Reply {
+            let o = leader::open_ballot(&r, own, s, Ballot(p.ballot), p.fast, out);
+            *s = o.state;
+            Reply { answer: o.answer, sent: o.sent }
+        });
     };
 }

@@ -1,5 +1,5 @@
-//! The records that the library is lent and hands back, in the layout that
-//! it names. Everything goes by value.
+//! The records that the library is lent, and what it answers, in the layout
+//! that it names.
 
 /// The number of sites and of those that may lie.
 #[repr(C)]
@@ -23,6 +23,20 @@ pub struct History {
 pub struct Table {
     pub counts: [u8; 16],
     pub words: [u64; 512],
+}
+
+/// What a call with a buffer answers.
+#[repr(C)]
+pub struct Reply {
+    pub answer: u8,
+    pub sent: usize,
+}
+
+/// What a learner's call answers.
+#[repr(C)]
+pub struct LearnerReply {
+    pub answer: u8,
+    pub supporters: u8,
 }
 
 /// A learner's state.
@@ -86,10 +100,30 @@ pub struct AcceptorOutcome {
     pub state: Acceptor,
 }
 
-/// A ballot as an argument.
+/// A site: the view-change record and the acceptor's state.
+#[repr(C)]
+#[derive(Clone, PartialEq, Eq)]
+pub struct Site {
+    pub views: ViewRecord,
+    pub acceptor: Acceptor,
+}
+
+/// A view and a ballot as arguments.
+#[repr(C)]
+#[derive(Clone, Copy, Debug, PartialEq, Eq)]
+pub struct View(pub u32);
+
 #[repr(C)]
 #[derive(Clone, Copy, Debug, PartialEq, Eq)]
 pub struct Ballot(pub u32);
+
+/// A ballot that a leader is to open.
+#[repr(C)]
+#[derive(Clone, Copy, Debug, PartialEq, Eq)]
+pub struct Opening {
+    pub ballot: u32,
+    pub fast: u8,
+}
 
 /// A leader's state. `reported` are the sites that reported in this ballot,
 /// `proven` and `held` the histories of their reports.
@@ -155,6 +189,13 @@ impl Acceptor {
             certificate: 0,
             verified: Table::empty(),
         }
+    }
+}
+
+impl Site {
+    /// A site at its start.
+    pub fn fresh() -> Site {
+        Site { views: ViewRecord::fresh(), acceptor: Acceptor::fresh() }
     }
 }
 

@@ -15,26 +15,37 @@ mod viewchange;
 
 use layout::*;
 
-/// A function of the library, by a model's.
-macro_rules! define {
-    ($name:ident = $model:path: ($($value:ident: [$($type:tt)+]),*
-        $(; line $line:ident)? $(; out $out:ident)?) -> $outcome:ty) => {
-        /// # Safety
-        /// Pointers and lengths are those of slices that live as long as the
-        /// call, the output's lent to it alone.
+/// A function that makes a record.
+macro_rules! define_fresh {
+    ($name:ident = $record:ident) => {
         #[no_mangle]
-        pub unsafe extern "C" fn $name(
-            $($value: by_value!($($type)+),)*
-            $($line: *const u8, len: usize,)?
-            $($out: *mut u8, room: usize,)?
-        ) -> $outcome {
-            $model(
-                $(as_taken!([$($type)+] $value),)*
-                $(std::slice::from_raw_parts($line, len),)?
-                $(std::slice::from_raw_parts_mut($out, room),)?
-            )
+        pub extern "C" fn $name() -> $record {
+            $record::fresh()
         }
     };
 }
 
-functions!(define);
+/// A function of the library, by a model's.
+macro_rules! define_call {
+    ($name:ident($record:ident: $kind:ty $(, $value:ident: $type:ty)*
+        $(; line $line:ident)? $(; out $out:ident)?) -> $reply:ty $body:block) => {
+        /// # Safety
+        /// Pointers and lengths are those of a record and of slices that live
+        /// as long as the call, record and output lent to it alone.
+        #[no_mangle]
+        pub unsafe extern "C" fn $name(
+            $record: *mut $kind,
+            $($value: $type,)*
+            $($line: *const u8, len: usize,)?
+            $($out: *mut u8, room: usize,)?
+        ) -> $reply {
+            let $record = &mut *$record;
+            $(let $line = std::slice::from_raw_parts($line, len);)?
+            $(let $out = std::slice::from_raw_parts_mut($out, room);)?
+            $body
+        }
+    };
+}
+
+fresh_records!(define_fresh);
+calls!(define_call);

@@ -1,4 +1,4 @@
--- `speckleewe::numbered` meets its contract: the outcome, with its answer's number.
+-- `speckleewe::numbered` meets its contract: the answer's number stands in the answer's place.
 -- Assumes nothing.
 use borrow.Author.Needs.{needs}
 use Rattle.speckleewe.proofs.numbered.Statement.{statement}
@@ -11,7 +11,7 @@ returns : tie.Need-returns
 returns c =
     let number-call = c .number in
     let given = c .before .before .args in
-    λ i. record { answer = number-call .ensures i; sent = given .o .sent; state = given .o .state }
+    λ i. record { answer = number-call .ensures i; sent = given .o .sent; views = given .o .views }
 
 pub numbered-spec : {M : Type 1} → statement M
 numbered-spec = tie.close (tie.spec number-requires returns)

@@ -24,5 +24,5 @@ fn step(call: &Call) -> (LeaderOutcome, Vec<u8>) {
 
 /// Seed and count are the arguments.
 fn main() -> ExitCode {
-    model::driver::main::<LeaderRole>(library::leader_fresh, step)
+    model::driver::main::<LeaderRole>(library::speckleewe_leader_fresh, step)
 }

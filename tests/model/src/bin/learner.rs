@@ -14,5 +14,5 @@ fn step(call: &Call) -> LearnerOutcome {
 
 /// Seed and count are the arguments.
 fn main() -> ExitCode {
-    model::driver::main::<LearnerRole>(library::learner_fresh, step)
+    model::driver::main::<LearnerRole>(library::speckleewe_learner_fresh, step)
 }

@@ -24,5 +24,5 @@ fn step(call: &Call) -> (ViewChangeOutcome, Vec<u8>) {
 
 /// Seed and count are the arguments.
 fn main() -> ExitCode {
-    model::driver::main::<ViewChangeRole>(library::view_record_fresh, step)
+    model::driver::main::<ViewChangeRole>(library::speckleewe_view_record_fresh, step)
 }

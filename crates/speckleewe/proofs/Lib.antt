@@ -1,0 +1,5 @@
+-- The walks of the entries over a lent record.
+mod Arguments
+mod Lent
+mod WithBuffer
+mod WithoutBuffer
