@@ -11,6 +11,10 @@ python3 tests/tables/site_lines.py --check crates/site_lines
 tests/learn.sh target/bin/learn
 rt staticlib speckleewe >/dev/null
 library=target/staticlib/libspeckleewe.a
+tests/layout/run.sh
+tests/symbols.sh $library
+tests/example.sh $library
+tests/fuzz/run.sh $library
 tests/model/run.sh $library --self
 for role in learner viewchange acceptor leader; do
     tests/model/run.sh $library $role

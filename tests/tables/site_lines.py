@@ -812,4 +812,5 @@ def main():
                 sys.exit(f"{path} is not the table's")
 
 
-main()
+if __name__ == "__main__":
+    main()
