@@ -19,11 +19,13 @@
  *   - Nothing is read or written beyond the lengths that are given.
  *
  * What the host must do; the promises above and the agreement of all learners
- * rest on it:
+ * rest on 1 to 5, and what a mask means on 6:
  *
- *   1. Pointers are not null (also where a length is 0), point to as many bytes
- *      as stated, and what one call is lent doesn't overlap.
- *   2. One call at a time on a record. Different records are independent.
+ *   1. Pointers are not null (also where a length is 0), a record's is aligned for
+ *      its type, they point to as many bytes as stated, and what one call is lent
+ *      doesn't overlap.
+ *   2. One call at a time on a record, a site and its `views` being one. Different
+ *      records are independent.
  *   3. A site has one record and one number for good, all sites have one roster,
  *      and nobody else writes a record.
  *   4. The record is persisted before the line that the call sent leaves the

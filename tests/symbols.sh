@@ -1,6 +1,6 @@
 #!/usr/bin/env bash
-# symbols.sh LIBRARY: what the archive needs, defines and keeps. Fails if it needs more than copying and comparing memory, if a function of
-# the header is missing, or if it has writable data.
+# symbols.sh LIBRARY: what the archive needs, defines and keeps. Fails if it needs more than copying and comparing memory, if a function
+# that the header declares is missing, or if it has writable data.
 set -euo pipefail
 
 if [ $# -ne 1 ] || [ ! -f "$1" ]; then
@@ -22,7 +22,7 @@ none() {
 
 needed=$(nm -u "$library" | awk '$1 == "U" || $1 == "w" || $1 == "v" { print $2 }' | sort -u)
 offered=$(nm -g --defined-only "$library" | awk 'NF == 3 { print $3 }' | sort -u)
-declared=$(grep -oE '\bspeckleewe_[a-z_]+\(' "$header" | tr -d '(' | sort -u)
+declared=$(grep -v '^static inline' "$header" | grep -oE '\bspeckleewe_[a-z_]+\(' | tr -d '(' | sort -u)
 # what one object needs and another offers is no need of the archive
 outside=$(comm -23 <(echo "$needed") <(echo "$offered"))
 

@@ -1,5 +1,5 @@
-//! Prints size and alignment of each record of the library, and offset and
-//! size of each field, by the header's names. The records are the models'.
+//! Prints size and alignment of each record of the models, by which they call
+//! the library, and offset and size of each field, by the header's names.
 #![allow(dead_code)]
 
 #[path = "../model/src/layout.rs"]

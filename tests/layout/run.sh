@@ -1,5 +1,6 @@
 #!/usr/bin/env bash
-# run.sh: the header compiles alone as C and as C++ without a warning, and sizes and offsets of its types are those of the library's records.
+# run.sh: the header compiles alone as C and as C++ without a warning, and sizes and offsets of its types are those of the
+# models' records, by which tests/model calls the library.
 set -euo pipefail
 here=$(cd -- "$(dirname -- "$0")" && pwd)
 root=$here/../..
@@ -20,4 +21,4 @@ rustc --edition 2021 -o "$out/layout-rust" "$here/layout.rs"
 "$out/layout-c" | sed 's/signed_/signed/' >"$out/c.txt"
 "$out/layout-rust" >"$out/rust.txt"
 diff "$out/c.txt" "$out/rust.txt"
-echo "layout: $(wc -l <"$out/c.txt") sizes and offsets of the header are the library's"
+echo "layout: $(wc -l <"$out/c.txt") sizes and offsets of the header are those of the models' records"
