@@ -51,7 +51,6 @@ try 'only equal commands are skipped' leader.rs '!h.iter().any(|&b| same_request
 try 'f+1 reports are enough' leader.rs \
     's.reported.count_ones() >= quorum(r)' 's.reported.count_ones() > u32::from(r.f)'
 try 'reports after N-f are taken' leader.rs 'first && !complete(r, s)' 'first'
-try 'a leader takes no report' leader.rs 'first && !complete(r, s)' 'first && false'
 try 'a leader keeps silent' leader.rs 'if result.is_empty() {' 'if !result.is_empty() {'
 try 'pending is emptied' leader.rs 'filter(|c| !result.contains(c))' 'filter(|_| false)'
 try 'held histories are not ordered' acceptor.rs '&canonical(&longer))' '&longer)'
