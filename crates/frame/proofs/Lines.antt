@@ -11,14 +11,15 @@ use lib.Seq.{take-add, length-take-le, drop-nil}
 use borrow.Author.Tests.{ltb-true, leb-true, eq-eqb, ne-eqb}
 use Rattle.roster.specs.Mask.{bit}
 use Rattle.frame.specs.declared.Frame.{Frame}
+use Rattle.frame.specs.declared.Heading.{Heading}
 use Rattle.frame.specs.declared.Reading.{Reading}
 use Rattle.frame.specs.Hex.{allDigits, numbers, allFit, total}
 use Rattle.frame.specs.HexLaws.{all-append, numbers-fit, numbers-take, length-numbers}
 use Rattle.frame.specs.Layout.{commandWidth, limit, capacity, widths, withValues, count, lineLength}
 use Rattle.frame.specs.Kinds.{uses, isKind, zeroUnless, unusedZero}
-use Rattle.frame.specs.Format.{commands, lineFeed, proper, padded, framed, frameOf, isLine, nothing, readingOf}
+use Rattle.frame.specs.Format.{commands, lineFeed, proper, padded, framed, frameOf, isLine, nothing, readingOf, readingWith}
 use Rattle.frame.specs.FormatLaws.{total-commands, fit-length}
-use Rattle.frame.specs.Leaves.{NumbersIn, properHeader, Headed, bodyGood, bodyReading}
+use Rattle.frame.specs.Leaves.{NumbersIn, properHeader, Headed, HeadIn, headingOf, noHeading, bodyGood, bodyReading, BodyIn}
 use Rattle.frame.specs.Tests.{and-left, and-right}
 
 -- a number that fits, among others
@@ -90,8 +91,11 @@ module _ (l h : List ℕ) (inv : Headed l h) where
   held = getD h 6 0 + getD h 7 0
 
   -- there are words enough
-  pub words-room : length (take {A = ℕ} (getD h 6 0 + getD h 7 0) (replicate 64 0)) ≡ getD h 6 0 + getD h 7 0
-  words-room = length-take-le {A = ℕ} (getD h 6 0 + getD h 7 0) (replicate 64 0) (omega (arith, head-n, head-m))
+  pub words-enough : {ws : List ℕ} → ws ≡ replicate 64 0 → getD h 6 0 + getD h 7 0 ≤ length ws
+  words-enough e = omega (arith, head-n, head-m, ap length e)
+
+  pub words-room : {ws : List ℕ} → ws ≡ replicate 64 0 → length (take (getD h 6 0 + getD h 7 0) ws) ≡ getD h 6 0 + getD h 7 0
+  words-room {ws} e = length-take-le (getD h 6 0 + getD h 7 0) ws (words-enough e)
 
   held-is : count (frameOf l) ≡ held
   unfolding held frameOf framed
@@ -120,10 +124,11 @@ module _ (l h : List ℕ) (inv : Headed l h) where
     right-length = eq-eqb (length l) (lineLength (count (frameOf l))) (size ∙ sym size-is)
 
     -- and the digits are those of as many commands
-    pub digits-room : length (take (36 + 16 * (getD h 6 0 + getD h 7 0) - 36) (drop 36 l)) ≡ 16 * length (take {A = ℕ} (getD h 6 0 + getD h 7 0) (replicate 64 0))
-    digits-room =
+    pub digits-room : {ws : List ℕ} → ws ≡ replicate 64 0
+        → length (take (36 + 16 * (getD h 6 0 + getD h 7 0) - 36) (drop 36 l)) ≡ 16 * length (take (getD h 6 0 + getD h 7 0) ws)
+    digits-room e =
         let k = getD h 6 0 + getD h 7 0 in
-        length-take-le (36 + 16 * k - 36) (drop 36 l) (omega (arith, length-drop 36 l)) ∙ omega (arith, words-room)
+        length-take-le (36 + 16 * k - 36) (drop 36 l) (omega (arith, length-drop 36 l)) ∙ omega (arith, words-room e)
 
     at-last : length l - 1 ≡ last
     unfolding last held
@@ -170,11 +175,22 @@ module _ (l h : List ℕ) (inv : Headed l h) where
             omega (arith, length-numbers (commands (count (frameOf l))) (drop 36 l), length-replicate (count (frameOf l)) commandWidth, same) in
             ap₂ (λ (s t : List ℕ). s ++ t) read (drop-zeros k 64 ∙ ap zeros left)
 
-        pub body-found : good ≡ true → _≡_ {A = Reading} (record { found = true; frame = withValues h (ys ++ drop (getD h 6 0 + getD h 7 0) (replicate 64 0)) }) (bodyReading l)
+        body-found : good ≡ true → readingWith (headingOf h) (ys ++ drop (getD h 6 0 + getD h 7 0) (replicate 64 0)) ≡ bodyReading l
         unfolding bodyReading frameOf framed zeros last held
         body-found g =
             ap (λ (f : Frame). record { found = true; frame = f }) (ap₂ withValues (inv .spelled-values) (words-are g))
             ∙ sym (ap (λ (b : Bool). cond b (record { found = true; frame = frameOf l }) nothing) (good-is ∙ sym (r .all) ∙ g))
+
+        pub some-body : good ≡ true → {hd : Heading} {ws : List ℕ} → hd ≡ headingOf h → ws ≡ replicate 64 0 → BodyIn l hd (ys ++ drop (getD h 6 0 + getD h 7 0) ws)
+        some-body g e z =
+            record {
+              some = λ p. ap₂ (λ (x : Heading) (t : List ℕ). readingWith x (ys ++ drop (getD h 6 0 + getD h 7 0) t)) e z ∙ body-found g;
+              none = λ p. absurd (true≢false (sym (ap (λ (x : Heading). x .found) e) ∙ p));
+            }
+
+-- where a test fails, nothing is found
+pub no-body : {l ws : List ℕ} {hd : Heading} → hd ≡ noHeading → nothing ≡ bodyReading l → BodyIn l hd ws
+no-body e f = record { some = λ p. absurd (true≢false (sym p ∙ ap (λ (x : Heading). x .found) e)); none = λ p. f }
 
 -- ---- the line as a whole
 
@@ -258,3 +274,10 @@ module _ (l h : List ℕ) (kinds : ℕ) (long : 37 ≤ length l) (good : Bool) (
     pub headed : properHeader h ≡ true → Headed l h
     unfolding total
     headed e = record { long = long; spelled = sym (r .all) ∙ g; spelled-values = values-are; proper = e }
+
+    pub head-in : properHeader h ≡ true → (b : Bool) → b ≡ bit kinds (getD h 0 0) → HeadIn l kinds b h
+    head-in e b f = record { headed = λ p. headed e; taken = λ p. sym f ∙ p; none = λ p. head-not-taken (sym f ∙ p) }
+
+-- where there is no frame, no header is good
+pub no-head : {l h : List ℕ} {kinds : ℕ} → nothing ≡ readingOf l kinds → HeadIn l kinds false h
+no-head e = record { headed = λ p. absurd (true≢false (sym p)); taken = λ p. absurd (true≢false (sym p)); none = λ p. e }

@@ -5,6 +5,7 @@ use mathlib.Core.List.{List, [], _∷_, _++_}
 use lib.Dec.{leb, eqb}
 use lib.ListN.{length, getD, take, drop, replicate}
 use Rattle.frame.specs.declared.Frame.{Frame}
+use Rattle.frame.specs.declared.Heading.{Heading}
 use Rattle.frame.specs.declared.Reading.{Reading}
 use Rattle.roster.specs.Mask.{bit}
 use Rattle.frame.specs.Hex.{allDigits, spell, numbers, allFit, total}
@@ -66,6 +67,24 @@ nothing = record { found = false; frame = blank }
 -- what is read of a line by a role that takes these kinds (kind k is bit k): FORM is given exactly if nothing is found
 unfoldable pub readingOf : List ℕ → ℕ → Reading
 readingOf l kinds = cond (isLine l && bit kinds (frameOf l .kind)) (record { found = true; frame = frameOf l }) nothing
+
+-- a frame whose heading and words are apart, and what is read so
+abbrev pub frameWith : Heading → List ℕ → Frame
+frameWith h ws =
+    record {
+      kind = h .kind;
+      sender = h .sender;
+      view = h .view;
+      ballot = h .ballot;
+      proven = h .proven;
+      mask = h .mask;
+      n = h .n;
+      m = h .m;
+      words = ws;
+    }
+
+abbrev pub readingWith : Heading → List ℕ → Reading
+readingWith h ws = record { found = h .found; frame = frameWith h ws }
 
 -- FORM, for a role that takes these kinds: "not such a line; unknown kind or one this role doesn't take"
 unfoldable pub malformed : List ℕ → ℕ → Bool

@@ -1,16 +1,18 @@
 -- What the functions inside `read` and `write` give.
-use Prim.Native.Nat.{ℕ, zero, suc, _+_, _-_, _*_, _/_, _%_, _≤_}
+use Prim.Native.Nat.{ℕ, zero, suc, _+_, _-_, _*_, _/_, _%_, _^_, _≤_, _<_}
 use mathlib.Core.Bool.{Bool, true, false, cond, _&&_}
 use mathlib.Core.List.{List, [], _∷_}
 use mathlib.Core.Path.{_≡_}
 use lib.Dec.{leb, eqb}
 use lib.ListN.{length, getD, take, drop}
 use Rattle.frame.specs.declared.Spelled.{Spelled}
+use Rattle.frame.specs.declared.Heading.{Heading}
 use Rattle.frame.specs.declared.Reading.{Reading}
+use Rattle.roster.specs.Mask.{bit}
 use Rattle.frame.specs.Hex.{digit, isDigit, valueOf, allDigits, number, numbers, total}
 use Rattle.frame.specs.Layout.{limit, widths, withValues, count, lineLength}
 use Rattle.frame.specs.Kinds.{uses, isKind, zeroUnless}
-use Rattle.frame.specs.Format.{frameOf, lineFeed, nothing}
+use Rattle.frame.specs.Format.{frameOf, lineFeed, nothing, readingOf, readingWith}
 
 -- the digit that a character is; 256 for what is none
 unfoldable pub digitIn : ℕ → ℕ
@@ -46,12 +48,42 @@ unfoldable pub properHeader : List ℕ → Bool
 properHeader h =
     isKind (getD h 0 0) && ((leb (getD h 6 0) limit && leb (getD h 7 0) limit) && zeroUnless (getD uses (getD h 0 0) []) h)
 
+-- the heading with these values of the fields, in the header's order; a header's, whose values fit their widths; and that of no frame
+abbrev headingWith : Bool → List ℕ → Heading
+headingWith found h =
+    record {
+      found = found;
+      kind = getD h 0 0;
+      sender = getD h 1 0;
+      view = record { 0 = getD h 2 0 };
+      ballot = record { 0 = getD h 3 0 };
+      proven = record { 0 = getD h 4 0 };
+      mask = getD h 5 0;
+      n = getD h 6 0;
+      m = getD h 7 0;
+    }
+
+abbrev pub Fitting : List ℕ → Type 0
+Fitting h = (k : ℕ) → k < 8 → getD h k 0 < 256 ^ getD widths k 0
+
+abbrev pub headingOf : List ℕ → Heading
+headingOf h = headingWith true h
+
+abbrev pub noHeading : Heading
+noHeading = headingWith false []
+
 -- a line that is long enough, whose header's digits spell these values, and they are proper
 pub record Headed (l h : List ℕ) : Type 0 where
   pub long : lineLength 0 ≤ length l
   pub spelled : allDigits (take (2 * total widths) l) ≡ true
   pub spelled-values : h ≡ numbers widths l
   pub proper : properHeader h ≡ true
+
+-- what reading a line's header finds: values of a kind that is taken, or that there is no frame
+pub record HeadIn (l : List ℕ) (kinds : ℕ) (good : Bool) (h : List ℕ) : Type 0 where
+  pub headed : good ≡ true → Headed l h
+  pub taken : good ≡ true → bit kinds (getD h 0 0) ≡ true
+  pub none : good ≡ false → nothing ≡ readingOf l kinds
 
 -- what is left to test of such a line: the length, the line feed, and the digits of the commands
 unfoldable pub bodyGood : List ℕ → Bool
@@ -61,3 +93,8 @@ bodyGood l =
 
 unfoldable pub bodyReading : List ℕ → Reading
 bodyReading l = cond (bodyGood l) (record { found = true; frame = frameOf l }) nothing
+
+-- what reading the rest finds: the heading and the words, or that there is no frame
+pub record BodyIn (l : List ℕ) (h : Heading) (ws : List ℕ) : Type 0 where
+  pub some : h .found ≡ true → readingWith h ws ≡ bodyReading l
+  pub none : h .found ≡ false → nothing ≡ bodyReading l

@@ -2,7 +2,7 @@
 ghost use mathlib.Core.Path.{_≡_};
 ghost use Prim.Native.Nat.{_+_, _*_, _≤_, _<_};
 ghost use mathlib.Core.List.{[]};
-ghost use lib.ListN.{length, getD};
+ghost use lib.ListN.{length, getD, replicate};
 ghost use Rattle.frame.specs.Hex as hex;
 ghost use Rattle.frame.specs.Layout as layout;
 ghost use Rattle.frame.specs.Kinds as kinds;
@@ -32,6 +32,19 @@ pub struct Frame {
     pub words: [u64; 64],
 }
 
+// A frame's fields but for its commands, and whether there is a frame; where there is none all are 0.
+pub struct Heading {
+    pub found: bool,
+    pub kind: u8,
+    pub sender: u8,
+    pub view: View,
+    pub ballot: Ballot,
+    pub proven: Ballot,
+    pub mask: u16,
+    pub n: u8,
+    pub m: u8,
+}
+
 // What reading finds: a frame, or none, and then the frame is all 0.
 pub struct Reading {
     pub found: bool,
@@ -42,6 +55,12 @@ pub struct Reading {
 struct Spelled {
     good: bool,
     value: u64,
+}
+
+// The values of a header, and whether they are good.
+struct Head {
+    good: bool,
+    values: [u64; 8],
 }
 
 // How many characters the header has, the shortest line, and a command; the most commands of a list.
@@ -252,82 +271,135 @@ pub fn longest() -> usize
     LONGEST
 }
 
-// What is read where there is no frame.
-fn nothing() -> Reading
-    ensures { λ r. ⌜ r ≡ format.nothing ⌝ }
+// The heading where there is no frame.
+fn no_heading() -> Heading
+    ensures { λ h. ⌜ h ≡ leaves.noHeading ⌝ }
 {
-    Reading {
+    Heading {
         found: false,
-        frame: Frame {
-            kind: 0,
-            sender: 0,
-            view: View(0),
-            ballot: Ballot(0),
-            proven: Ballot(0),
-            mask: 0,
-            n: 0,
-            m: 0,
-            words: [0u64; 64],
-        },
+        kind: 0,
+        sender: 0,
+        view: View(0),
+        ballot: Ballot(0),
+        proven: Ballot(0),
+        mask: 0,
+        n: 0,
+        m: 0,
     }
 }
 
-// The frame of a line whose header was read and is proper.
-fn read_body(values: &[u16], line: &[u8], head: [u64; 8]) -> Reading
-    requires { ⌜ (now values ≡ leaves.values) × leaves.Headed (now line) head ⌝ }
-    ensures { λ r. ⌜ r ≡ leaves.bodyReading (now (line .entry)) ⌝ }
+// The heading of a header's values.
+fn heading_of(head: [u64; 8]) -> Heading
+    requires { ⌜ leaves.Fitting head ⌝ }
+    ensures { λ h. ⌜ h ≡ leaves.headingOf head ⌝ }
+{
+    Heading {
+        found: true,
+        kind: head[0] as u8,
+        sender: head[1] as u8,
+        view: View(head[2] as u32),
+        ballot: Ballot(head[3] as u32),
+        proven: Ballot(head[4] as u32),
+        mask: head[5] as u16,
+        n: head[6] as u8,
+        m: head[7] as u8,
+    }
+}
+
+// The values of a line's header; good if they are proper and the kind is one of the kinds.
+fn read_head(values: &[u16], line: &[u8], kinds: u16) -> Head
+    requires { ⌜ now values ≡ leaves.values ⌝ }
+    ensures { λ r. ⌜ leaves.HeadIn (now (line .entry)) kinds (r .good) (r .values) ⌝ }
+{
+    let mut head = [0u64; 8];
+    if line.len() < SHORTEST {
+        return Head {
+            good: false,
+            values: head,
+        };
+    }
+    let spelled = read_header(values, &line[..HEADER], &mut head);
+    if !spelled {
+        return Head {
+            good: false,
+            values: head,
+        };
+    }
+    let fine = proper(&head);
+    if !fine {
+        return Head {
+            good: false,
+            values: head,
+        };
+    }
+    Head {
+        good: roster::contains(kinds, head[0] as u8),
+        values: head,
+    }
+}
+
+// The heading of a line whose header was read, and its commands into words that are 0.
+fn read_body(values: &[u16], line: &[u8], head: [u64; 8], words: &mut [u64]) -> Heading
+    requires { ⌜ (now values ≡ leaves.values) × leaves.Headed (now line) head × (now words ≡ replicate 64 0) ⌝ }
+    ensures { λ h. ⌜ leaves.BodyIn (now (line .entry)) h (now (words .exit)) ⌝ }
 {
     let count = head[6] as usize + head[7] as usize;
     let end = HEADER + COMMAND * count;
     if line.len() != end + 1 {
-        return nothing();
+        return no_heading();
     }
     if line[end] != FEED {
-        return nothing();
+        return no_heading();
     }
-    let mut words = [0u64; 64];
     let good = read_words(values, &line[HEADER..end], &mut words[..count]);
     if !good {
-        return nothing();
+        return no_heading();
     }
-    Reading {
-        found: true,
-        frame: Frame {
-            kind: head[0] as u8,
-            sender: head[1] as u8,
-            view: View(head[2] as u32),
-            ballot: Ballot(head[3] as u32),
-            proven: Ballot(head[4] as u32),
-            mask: head[5] as u16,
-            n: head[6] as u8,
-            m: head[7] as u8,
-            words,
-        },
+    heading_of(head)
+}
+
+// Reads a line of one of the kinds (kind k is bit k) into a heading and lent words: the n commands, then the m, then zeros.
+pub fn read_into(line: &[u8], kinds: u16, words: &mut [u64; 64]) -> Heading
+    ensures { λ h. ⌜ format.readingWith h (now (words .exit)) ≡ format.readingOf (now (line .entry)) kinds ⌝ }
+{
+    *words = [0u64; 64];
+    let values: &[u16] = &VALUES;
+    let read = read_head(values, line, kinds);
+    if !read.good {
+        return no_heading();
     }
+    let head = read.values;
+    let h = read_body(values, line, head, words);
+    if h.found {
+        return h;
+    }
+    *words = [0u64; 64];
+    no_heading()
 }
 
 // The frame of a line, if these characters are a line, of one of the kinds (kind k is bit k).
 pub fn read(line: &[u8], kinds: u16) -> Reading
     ensures { λ r. ⌜ r ≡ format.readingOf (now (line .entry)) kinds ⌝ }
 {
-    if line.len() < SHORTEST {
-        return nothing();
+    let mut words = [0u64; 64];
+    let h = read_into(line, kinds, &mut words);
+    let view = h.view;
+    let ballot = h.ballot;
+    let proven = h.proven;
+    Reading {
+        found: h.found,
+        frame: Frame {
+            kind: h.kind,
+            sender: h.sender,
+            view,
+            ballot,
+            proven,
+            mask: h.mask,
+            n: h.n,
+            m: h.m,
+            words,
+        },
     }
-    let values: &[u16] = &VALUES;
-    let mut head = [0u64; 8];
-    let good = read_header(values, &line[..HEADER], &mut head);
-    if !good {
-        return nothing();
-    }
-    let fine = proper(&head);
-    if !fine {
-        return nothing();
-    }
-    let taken = roster::contains(kinds, head[0] as u8);
-    if !taken {
-        return nothing();
-    }
-    read_body(values, line, head)
 }
 
 // Writes the frame's line at the front of `out` and answers its length; 0, and nothing is written, where it has no line or there is no room.
