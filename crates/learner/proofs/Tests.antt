@@ -90,13 +90,8 @@ pub stored-is : {t u : Table} {i j : ℕ} {g h : List ℕ} → Sized u → t ≡
 stored-is {t} {u} {i} {j} {g} {h} z e f k =
     e ∙ stored-in (u .words) (u .counts) i g (omega arith) (omega arith) ∙ ap (λ (x : ℕ). storedAt u x g) f ∙ ap (storedAt u j) k
 
--- ---- the outcome of a verdict v, l being what is learned after it
-
-module _ (s : State) (site : ℕ) (h : List ℕ) (v : Verdict) (l : History) (e : l ≡ cond (v .learns) (v .learned) (s .learned)) where
-  pub settled-kept : v .stores ≡ false
-      → record { answer = v .answer; supporters = v .supporters; state = record { entries = s .entries; learned = l } } ≡ settled s site h v
-  settled-kept p = rw (e, p)
-
-  pub settled-stored : (t : Table) → t ≡ storedAt (s .entries) site h → v .stores ≡ true
-      → record { answer = v .answer; supporters = v .supporters; state = record { entries = t; learned = l } } ≡ settled s site h v
-  settled-stored t f p = rw (e, f, p)
+-- the outcome of a verdict v, t and l being the entries and what is learned after it
+pub settled-parts : (s : State) (site : ℕ) (h : List ℕ) (v : Verdict) (t : Table) (l : History)
+    → t ≡ cond (v .stores) (storedAt (s .entries) site h) (s .entries) → l ≡ cond (v .learns) (v .learned) (s .learned)
+    → record { answer = v .answer; supporters = v .supporters; state = record { entries = t; learned = l } } ≡ settled s site h v
+settled-parts s site h v t l e f = rw (e, f)

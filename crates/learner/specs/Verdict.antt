@@ -22,11 +22,19 @@ use Rattle.frame.specs.declared.Reading.{Reading}
 use Rattle.learner.specs.declared.State.{State}
 use Rattle.learner.specs.declared.Verdict.{Verdict}
 use Rattle.learner.specs.declared.Outcome.{Outcome}
+use Rattle.learner.specs.declared.Answered.{Answered}
 use Rattle.learner.specs.Learner.{config, sender, stale, proof, wrong, contradicts, arrived}
 
--- a state of these parts: the entries' words and counts, and what is learned
+-- a history of these parts, and a state: the entries' words and counts, and what is learned
+abbrev pub historyOf : ℕ → List ℕ → Stored
+historyOf count words = record { count = count; words = words }
+
 abbrev pub stateOf : List ℕ → List ℕ → List ℕ → ℕ → State
-stateOf words counts past count = record { entries = tableOf words counts; learned = record { count = count; words = past } }
+stateOf words counts past count = record { entries = tableOf words counts; learned = historyOf count past }
+
+-- what a call in place gives, with the state that it leaves
+abbrev pub outcomeOf : Answered → State → Outcome
+outcomeOf o s = record { answer = o .answer; supporters = o .supporters; state = s }
 
 -- whether row i extends h
 abbrev pub backs : List ℕ → List ℕ → List ℕ → ℕ → Bool

@@ -2,12 +2,13 @@
 ghost use mathlib.Core.Bool.{cond};
 ghost use mathlib.Core.Path.{_≡_};
 ghost use Prim.Native.Nat.{_≤_};
-ghost use lib.ListN.{length, take};
+ghost use lib.ListN.{length};
 ghost use Rattle.roster.specs.Sites.{countTo};
+ghost use Rattle.table.specs.Table.{tableOf, storedAt};
+ghost use Rattle.frame.specs.Format.{frameWith, readingWith};
 ghost use Rattle.learner.specs.Learner as spec;
 ghost use Rattle.learner.specs.Verdict as verdict;
-use frame::Frame;
-use frame::Reading;
+use frame::Heading;
 use history::History;
 use refusal::Answer;
 use refusal::Refusal;
@@ -26,6 +27,12 @@ pub struct Outcome {
     pub answer: Answer,
     pub supporters: u8,
     pub state: State,
+}
+
+// What a call in place answers: the answer to a line, and the number of supporters of the arrived history.
+pub struct Answered {
+    pub answer: Answer,
+    pub supporters: u8,
 }
 
 // What is decided of a vote: the answer, the supporters, whether the vote is stored, and what is learned with it, if anything is.
@@ -51,13 +58,6 @@ fn against(e: Refusal) -> Verdict
             words: [0u64; 32],
         },
     }
-}
-
-// A number of a frame as an index.
-fn wide(n: u8) -> usize
-    ensures { λ k. ⌜ k ≡ n ⌝ }
-{
-    n as usize
 }
 
 // Whether the roster, the entries or what is learned, the first `count` words of `past`, are such that no step takes them.
@@ -206,9 +206,16 @@ fn inspect<'a>(
     enter(r, words, counts, learned, site, h)
 }
 
-// The verdict on a vote: sender, ballot and certificate, and then the history.
-fn vote<'a>(r: Roster, words: &'a [u64], counts: &'a [u8], learned: &[u64], v: Frame) -> Verdict
-    ensures { λ d. ⌜ d ≡ verdict.onVote r (now (words .entry)) (now (counts .entry)) (now (learned .entry)) v ⌝ }
+// The verdict on a vote: sender, ballot and certificate, and then the history, the first words of `all`.
+fn vote<'a>(
+    r: Roster,
+    words: &'a [u64],
+    counts: &'a [u8],
+    learned: &[u64],
+    v: Heading,
+    all: &[u64; 64],
+) -> Verdict
+    ensures { λ d. ⌜ d ≡ verdict.onVote r (now (words .entry)) (now (counts .entry)) (now (learned .entry)) (frameWith v (now (all .entry))) ⌝ }
 {
     let unknown = r.n <= v.sender;
     if unknown {
@@ -227,22 +234,15 @@ fn vote<'a>(r: Roster, words: &'a [u64], counts: &'a [u8], learned: &[u64], v: F
     if !enough {
         return against(Refusal::Proof);
     }
-    let arrived: &[u64] = &v.words;
+    let carried: &[u64] = all;
     inspect(
         r,
         words,
         counts,
         learned,
         v.sender,
-        history::first(arrived, v.n as usize),
+        history::first(carried, v.n as usize),
     )
-}
-
-// What is learned after a verdict: what it brings, or what was learned before.
-fn latest(learns: bool, learned: History, before: History) -> History
-    ensures { λ h. ⌜ h ≡ cond learns learned before ⌝ }
-{
-    if learns { learned } else { before }
 }
 
 // The kinds that a learner takes: P2B alone, which is bit 7.
@@ -255,15 +255,16 @@ fn judge<'a>(
     counts: &'a [u8],
     past: &'a [u64],
     count: u8,
-    reading: Reading,
+    head: Heading,
+    all: &[u64; 64],
 ) -> Verdict
-    ensures { λ v. ⌜ v ≡ verdict.onReading r (now (words .entry)) (now (counts .entry)) (now (past .entry)) count reading ⌝ }
+    ensures { λ v. ⌜ v ≡ verdict.onReading r (now (words .entry)) (now (counts .entry)) (now (past .entry)) count (readingWith head (now (all .entry))) ⌝ }
 {
     let unfit = config(r, words, counts, past, count);
     if unfit {
         return against(Refusal::Config);
     }
-    let found = reading.found;
+    let found = head.found;
     if !found {
         return against(Refusal::Form);
     }
@@ -272,41 +273,82 @@ fn judge<'a>(
         words,
         counts,
         history::first(past, count as usize),
-        reading.frame,
+        head,
+        all,
     )
 }
 
-// One step: the answer to a line, its supporters, and the state after it. Any line is answered in any state.
-pub fn step(r: Roster, mut s: State, line: &[u8]) -> Outcome
-    ensures { λ o. ⌜ o ≡ spec.step r s (now (line .entry)) ⌝ }
+// What is learned after a verdict: what it brings, if anything.
+fn keep(learns: bool, h: History, count: &mut u8, learned: &mut [u64; 32])
+    ensures { λ r. ⌜ verdict.historyOf (now (count .exit)) (now (learned .exit)) ≡ cond learns h (verdict.historyOf (now (count .entry)) (now (learned .entry))) ⌝ }
 {
-    let entries: &[u64] = &s.entries.words;
-    let lengths: &[u8] = &s.entries.counts;
-    let past: &[u64] = &s.learned.words;
-    let reading = frame::read(line, TAKEN);
-    let v = judge(r, entries, lengths, past, s.learned.count, reading);
-    let answer = v.answer;
-    s.learned = latest(v.learns, v.learned, s.learned);
-    let stores = v.stores;
-    if !stores {
-        return Outcome {
-            answer,
-            supporters: v.supporters,
-            state: s,
-        };
+    if learns {
+        let kept = h.words;
+        *count = h.count;
+        *learned = kept;
     }
-    let vote = reading.frame;
-    let arrived: &[u64] = &vote.words;
-    let h = history::first(arrived, wide(vote.n));
-    let mut words = s.entries.words;
-    let mut counts = s.entries.counts;
-    table::store(&mut words, &mut counts, wide(vote.sender), h);
-    let entered = Table { counts, words };
-    s.entries = entered;
-    Outcome {
+}
+
+// The entries after a verdict: with the vote's history, the first words of `all`, as its sender's entry, if it is stored.
+fn store(stores: bool, counts: &mut [u8; 16], words: &mut [u64; 512], v: Heading, all: &[u64; 64])
+    ensures { λ r. ⌜ tableOf (now (words .exit)) (now (counts .exit)) ≡ cond stores (storedAt (tableOf (now (words .entry)) (now (counts .entry))) (v .sender) (spec.arrived (frameWith v (now (all .entry))))) (tableOf (now (words .entry)) (now (counts .entry))) ⌝ }
+{
+    if stores {
+        let carried: &[u64] = all;
+        let h = history::first(carried, v.n as usize);
+        table::store(words, counts, v.sender as usize, h);
+    }
+}
+
+// One step in place, on the parts of a state: the entries' counts and words, and the count and words of what is learned. Any line is answered
+// in any state.
+pub fn step_in_place(
+    r: Roster,
+    counts: &mut [u8; 16],
+    words: &mut [u64; 512],
+    count: &mut u8,
+    learned: &mut [u64; 32],
+    line: &[u8],
+) -> Answered
+    ensures { λ o. ⌜ verdict.outcomeOf o (verdict.stateOf (now (words .exit)) (now (counts .exit)) (now (learned .exit)) (now (count .exit))) ≡ spec.step r (verdict.stateOf (now (words .entry)) (now (counts .entry)) (now (learned .entry)) (now (count .entry))) (now (line .entry)) ⌝ }
+{
+    let mut carried = [0u64; 64];
+    let head = frame::read_into(line, TAKEN, &mut carried);
+    let entries: &[u64] = words;
+    let lengths: &[u8] = counts;
+    let past: &[u64] = learned;
+    let v = judge(r, entries, lengths, past, *count, head, &carried);
+    keep(v.learns, v.learned, count, learned);
+    store(v.stores, counts, words, head, &carried);
+    let answer = v.answer;
+    Answered {
         answer,
         supporters: v.supporters,
-        state: s,
+    }
+}
+
+// One step by value: the answer to a line, its supporters, and the state after it. Any line is answered in any state.
+pub fn step(r: Roster, s: State, line: &[u8]) -> Outcome
+    ensures { λ o. ⌜ o ≡ spec.step r s (now (line .entry)) ⌝ }
+{
+    let entries = s.entries;
+    let past = s.learned;
+    let mut counts = entries.counts;
+    let mut words = entries.words;
+    let mut count = past.count;
+    let mut learned = past.words;
+    let o = step_in_place(r, &mut counts, &mut words, &mut count, &mut learned, line);
+    let answer = o.answer;
+    Outcome {
+        answer,
+        supporters: o.supporters,
+        state: State {
+            entries: Table { counts, words },
+            learned: History {
+                count,
+                words: learned,
+            },
+        },
     }
 }
 

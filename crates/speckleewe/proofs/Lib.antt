@@ -2,4 +2,5 @@
 mod Arguments
 mod Lent
 mod WithBuffer
-mod WithoutBuffer
+mod Parts
+mod LearnerInPlace

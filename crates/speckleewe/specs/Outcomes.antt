@@ -13,13 +13,11 @@ use Rattle.acceptor.specs.Acceptor as acceptor
 use Rattle.leader.specs.declared.Outcome as leading
 use Rattle.leader.specs.declared.State as leading-state
 use Rattle.leader.specs.Leader as leader
-use Rattle.learner.specs.declared.Outcome as learning
 use Rattle.learner.specs.declared.State.{State}
 use Rattle.learner.specs.Learner as learner
 use Rattle.viewchange.specs.declared.Outcome as changing
 use Rattle.viewchange.specs.ViewChange as change
 use Rattle.speckleewe.specs.declared.LeaderOutcome.{LeaderOutcome}
-use Rattle.speckleewe.specs.declared.LearnerOutcome.{LearnerOutcome}
 use Rattle.speckleewe.specs.declared.LearnerReply.{LearnerReply}
 use Rattle.speckleewe.specs.declared.Opening.{Opening}
 use Rattle.speckleewe.specs.declared.Reply.{Reply}
@@ -78,11 +76,13 @@ opens s r own p out o buffer =
 
 -- ---- a learner
 
-abbrev pub learnerOutcome : learning.Outcome → LearnerOutcome
-learnerOutcome o = record { answer = answerNumber (o .answer); supporters = o .supporters; state = o .state }
+-- a state of its parts: the entries' counts and words, and the count and words of what is learned
+abbrev pub learnerState : List ℕ → List ℕ → ℕ → List ℕ → State
+learnerState counts words count learned =
+    record { entries = record { counts = counts; words = words }; learned = record { count = count; words = learned } }
 
-abbrev pub learnerLeft : LearnerReply → State → LearnerOutcome
-learnerLeft r s = record { answer = r .answer; supporters = r .supporters; state = s }
-
-abbrev pub learns : State → Roster → List ℕ → LearnerOutcome → Type 0
-learns s r line o = o ≡ learnerOutcome (learner.step r s line)
+-- the state before, the roster and the line; the answer in numbers and the state after
+abbrev pub learns : State → Roster → List ℕ → LearnerReply → State → Type 0
+learns s r line a t =
+    (a ≡ record { answer = answerNumber (learner.step r s line .answer); supporters = learner.step r s line .supporters })
+    × (t ≡ learner.step r s line .state)

@@ -5,7 +5,7 @@ ghost use Rattle.frame.specs.Layout.{longest};
 ghost use Rattle.leader.specs.Leader as leading;
 ghost use Rattle.learner.specs.Learner as learning;
 ghost use Rattle.site.specs.Site as fresh;
-ghost use Rattle.speckleewe.specs.Outcomes.{accepts, changesView, freshSite, leaderLeft, leaderOutcome, leads, learnerLeft, learns, opens, siteLeft, suspects, viewChangeOutcome, viewsLeft};
+ghost use Rattle.speckleewe.specs.Outcomes.{accepts, changesView, freshSite, leaderLeft, leaderOutcome, leads, learnerState, learns, opens, siteLeft, suspects, viewChangeOutcome, viewsLeft};
 use learner::State;
 use roster::Ballot;
 use roster::Roster;
@@ -59,13 +59,6 @@ struct LeaderOutcome {
     answer: u8,
     sent: usize,
     state: leader::State,
-}
-
-// What a learner's step gives: the answer's number, the supporters, and the state after it.
-struct LearnerOutcome {
-    answer: u8,
-    supporters: u8,
-    state: State,
 }
 
 // A fresh view-change record: view 0, no suspicion, no target.
@@ -318,31 +311,36 @@ pub extern "C" fn speckleewe_open_ballot(
     }
 }
 
-// A step of a learner, by value.
-fn learner_by_value(state: State, roster: Roster, line: &[u8]) -> LearnerOutcome
-    ensures { λ o. ⌜ learns state roster (now (line .entry)) o ⌝ }
+// A step of a learner on the parts of its state.
+fn learner_in_parts<'p, 'a>(
+    counts: &'p mut [u8; 16],
+    words: &'p mut [u64; 512],
+    count: &'p mut u8,
+    learned: &'p mut [u64; 32],
+    roster: Roster,
+    line: &'a [u8],
+) -> LearnerReply
+    ensures { λ r. ⌜ learns (learnerState (now (counts .entry)) (now (words .entry)) (now (count .entry)) (now (learned .entry))) roster (now (line .entry)) r (learnerState (now (counts .exit)) (now (words .exit)) (now (count .exit)) (now (learned .exit))) ⌝ }
 {
-    let o = learner::step(roster, state, line);
+    let o = learner::step_in_place(roster, counts, words, count, learned, line);
     let answer = o.answer;
-    let counted = o.supporters;
-    let learned = o.state;
-    LearnerOutcome {
+    LearnerReply {
         answer: answer.number(),
-        supporters: counted,
-        state: learned,
+        supporters: o.supporters,
     }
 }
 
 // A step of a learner on the state that the host lends.
 #[no_mangle]
 pub extern "C" fn speckleewe_learner(state: &mut State, roster: Roster, line: &[u8]) -> LearnerReply
-    ensures { λ r. ⌜ learns (now (state .entry)) roster (now (line .entry)) (learnerLeft r (now (state .exit))) ⌝ }
+    ensures { λ r. ⌜ learns (now (state .entry)) roster (now (line .entry)) r (now (state .exit)) ⌝ }
 {
-    let before = *state;
-    let o = learner_by_value(before, roster, line);
-    *state = o.state;
-    LearnerReply {
-        answer: o.answer,
-        supporters: o.supporters,
-    }
+    learner_in_parts(
+        &mut state.entries.counts,
+        &mut state.entries.words,
+        &mut state.learned.count,
+        &mut state.learned.words,
+        roster,
+        line,
+    )
 }

@@ -5,6 +5,7 @@ use mathlib.Core.List.{List}
 use Prim.Native.Nat.{ℕ}
 use borrow.Author.Needs.{needs}
 use borrow.Author.Tests.{not-true, not-false}
+use Rattle.frame.specs.Format.{frameWith}
 use Rattle.refusal.specs.Rules.{judged}
 use Rattle.learner.specs.Verdict.{onVote}
 use Rattle.learner.proofs.judge.Statement.{statement}
@@ -19,8 +20,7 @@ against-requires c κs = search needs
 returns : tie.Need-returns
 unfolding judged
 returns c =
-    let config-call = c .before .before .config in
-    rw (sym (config-call .ensures) ∙ c .before .if1 .taken) (c .against .ensures)
+    rw (sym (c .before .before .config .ensures) ∙ c .before .if1 .taken) (c .against .ensures)
 
 against-requires-2 : tie.Need-against-requires-2
 against-requires-2 c κs = search needs
@@ -28,10 +28,7 @@ against-requires-2 c κs = search needs
 returns-2 : tie.Need-returns-2
 unfolding judged
 returns-2 c =
-    let config-call = c .before .before .before .config in
-    let if1 = c .before .before .if1 in
-    let given = c .before .before .before .before .before .before .before .args in
-    rw (sym (config-call .ensures) ∙ if1 .left, not-true (given .reading .found) (c .before .if2 .taken)) (c .against2 .ensures)
+    rw (sym (c .before .before .before .config .ensures) ∙ c .before .before .if1 .left, not-true (c .before .before .before .before .before .before .before .args .head .found) (c .before .if2 .taken)) (c .against2 .ensures)
 
 first-requires : tie.Need-first-requires
 first-requires c κs = search needs
@@ -42,11 +39,8 @@ vote-requires c κs = search needs
 returns-3 : tie.Need-returns-3
 unfolding judged
 returns-3 c =
-    let config-call = c .before .before .before .before .config in
-    let if1 = c .before .before .before .if1 in
-    let given = c .before .before .before .before .before .before .before .before .args in
-    let if2 = c .before .before .if2 in
-    rw (sym (config-call .ensures) ∙ if1 .left, not-false (given .reading .found) (if2 .left)) (c .vote .ensures ∙ ap (λ (l : List ℕ). onVote (given .r) (given .words .now) (given .counts .now) l (given .reading .frame)) (c .before .first .ensures))
+    rw (sym (c .before .before .before .before .config .ensures) ∙ c .before .before .before .if1 .left, not-false (c .before .before .before .before .before .before .before .before .args .head .found) (c .before .before .if2 .left))
+    (c .vote .ensures ∙ ap (λ (l : List ℕ). onVote (c .before .before .before .before .before .before .before .before .args .r) (c .before .before .before .before .before .before .before .before .args .words .now) (c .before .before .before .before .before .before .before .before .args .counts .now) l (frameWith (c .before .before .before .before .before .before .before .before .args .head) (c .before .before .before .before .before .before .before .before .args .all .now))) (c .before .first .ensures))
 
 pub judge-spec : {M : Type 1} → statement M
 judge-spec =

@@ -19,7 +19,8 @@ against-requires c κs = search needs
 
 returns : tie.Need-returns
 unfolding judged sender
-returns c = rw (c .before .if1 .taken) (c .against .ensures)
+returns c =
+    rw (c .before .if1 .taken) (c .against .ensures)
 
 against-requires-2 : tie.Need-against-requires-2
 against-requires-2 c κs = search needs
@@ -27,8 +28,7 @@ against-requires-2 c κs = search needs
 returns-2 : tie.Need-returns-2
 unfolding judged sender stale
 returns-2 c =
-    let if1 = c .before .before .before .before .if1 in
-    rw (if1 .left, c .before .if2 .taken) (c .against2 .ensures)
+    rw (c .before .before .before .before .if1 .left, c .before .if2 .taken) (c .against2 .ensures)
 
 beyond-requires : tie.Need-beyond-requires
 beyond-requires c κs = search needs
@@ -39,10 +39,7 @@ against-requires-3 c κs = search needs
 returns-3 : tie.Need-returns-3
 unfolding judged sender stale proof
 returns-3 c =
-    let if1 = c .before .before .before .before .before .before .if1 in
-    let if2 = c .before .before .before .if2 in
-    let beyond-call = c .before .before .beyond in
-    rw (if1 .left, if2 .left, sym (beyond-call .ensures) ∙ c .before .if3 .taken) (c .against3 .ensures)
+    rw (c .before .before .before .before .before .before .if1 .left, c .before .before .before .if2 .left, sym (c .before .before .beyond .ensures) ∙ c .before .if3 .taken) (c .against3 .ensures)
 
 quorum-requires : tie.Need-quorum-requires
 quorum-requires c κs = search needs
@@ -56,14 +53,7 @@ against-requires-4 c κs = search needs
 returns-4 : tie.Need-returns-4
 unfolding judged sender stale proof
 returns-4 c =
-    let if1 = c .before .before .before .before .before .before .before .before .before .if1 in
-    let if2 = c .before .before .before .before .before .before .if2 in
-    let beyond-call = c .before .before .before .before .before .beyond in
-    let if3 = c .before .before .before .before .if3 in
-    let reaches-call = c .before .before .reaches in
-    let given = c .before .before .before .before .before .before .before .before .before .before .before .before .before .before .args in
-    let quorum-call = c .before .before .before .quorum in
-    rw (if1 .left, if2 .left, sym (beyond-call .ensures) ∙ if3 .left, sym (reaches-call .ensures ∙ ap (reaches (given .t5 .mask)) (quorum-call .ensures)) ∙ not-true _ (c .before .if4 .taken)) (c .against4 .ensures)
+    rw (c .before .before .before .before .before .before .before .before .before .if1 .left, c .before .before .before .before .before .before .if2 .left, sym (c .before .before .before .before .before .beyond .ensures) ∙ c .before .before .before .before .if3 .left, sym (c .before .before .reaches .ensures ∙ ap (reaches (c .before .before .before .before .before .before .before .before .before .before .before .before .before .before .before .args .v .mask)) (c .before .before .before .quorum .ensures)) ∙ not-true _ (c .before .if4 .taken)) (c .against4 .ensures)
 
 cast-first : tie.Need-cast-first
 cast-first c = search needs
@@ -72,20 +62,14 @@ first-requires : tie.Need-first-requires
 first-requires c κs = search needs
 
 inspect-requires : tie.Need-inspect-requires
-inspect-requires c κs = rw (c .first .ensures, length-take) (omega arith)
+inspect-requires c κs =
+    rw (c .first .ensures, length-take) (omega arith)
 
 returns-5 : tie.Need-returns-5
 unfolding judged sender stale proof
 returns-5 c =
-    let if1 = c .before .before .before .before .before .before .before .before .before .before .before .before .before .if1 in
-    let if2 = c .before .before .before .before .before .before .before .before .before .before .if2 in
-    let beyond-call = c .before .before .before .before .before .before .before .before .before .beyond in
-    let if3 = c .before .before .before .before .before .before .before .before .if3 in
-    let reaches-call = c .before .before .before .before .before .before .reaches in
-    let given = c .before .before .before .before .before .before .before .before .before .before .before .before .before .before .before .before .before .before .args in
-    let quorum-call = c .before .before .before .before .before .before .before .quorum in
-    let if4 = c .before .before .before .before .before .if4 in
-    rw (if1 .left, if2 .left, sym (beyond-call .ensures) ∙ if3 .left, sym (reaches-call .ensures ∙ ap (reaches (given .t5 .mask)) (quorum-call .ensures)) ∙ not-false _ (if4 .left)) (c .inspect .ensures ∙ ap (λ (h : List ℕ). onHistory (given .r) (given .words .now) (given .counts .now) (given .learned .now) (given .t5 .sender) h) (c .before .first .ensures))
+    rw (c .before .before .before .before .before .before .before .before .before .before .before .before .if1 .left, c .before .before .before .before .before .before .before .before .before .if2 .left, sym (c .before .before .before .before .before .before .before .before .beyond .ensures) ∙ c .before .before .before .before .before .before .before .if3 .left, sym (c .before .before .before .before .before .reaches .ensures ∙ ap (reaches (c .before .before .before .before .before .before .before .before .before .before .before .before .before .before .before .before .before .before .args .v .mask)) (c .before .before .before .before .before .before .quorum .ensures)) ∙ not-false _ (c .before .before .before .before .if4 .left))
+    (c .inspect .ensures ∙ ap (λ (h : List ℕ). onHistory (c .before .before .before .before .before .before .before .before .before .before .before .before .before .before .before .before .before .before .args .r) (c .before .before .before .before .before .before .before .before .before .before .before .before .before .before .before .before .before .before .args .words .now) (c .before .before .before .before .before .before .before .before .before .before .before .before .before .before .before .before .before .before .args .counts .now) (c .before .before .before .before .before .before .before .before .before .before .before .before .before .before .before .before .before .before .args .learned .now) (c .before .before .before .before .before .before .before .before .before .before .before .before .before .before .before .before .before .before .args .v .sender) h) (c .before .first .ensures))
 
 pub vote-spec : {M : Type 1} → statement M
 vote-spec =

@@ -1,0 +1,15 @@
+-- `learner::keep` meets its contract: it writes both parts, or leaves both.
+-- Assumes nothing.
+use Rattle.learner.proofs.keep.Statement.{statement}
+use Rattle.learner.proofs.keep.Tie as tie
+
+returns : tie.Need-returns
+returns c =
+    rw (c .before .if1 .taken)
+
+returns-2 : tie.Need-returns-2
+returns-2 c =
+    rw (c .if1 .left)
+
+pub keep-spec : {M : Type 1} → statement M
+keep-spec = tie.close (tie.spec returns returns-2)
