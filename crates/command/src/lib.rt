@@ -115,11 +115,8 @@ pub fn same_request(c: u64, d: u64) -> bool
     ensures { λ r. ⌜ r ≡ spec.sameRequest c d ⌝ }
 {
     let same_proposer = proposer(c) == proposer(d);
-    if same_proposer {
-        serial(c) == serial(d)
-    } else {
-        false
-    }
+    let same_serial = serial(c) == serial(d);
+    same_proposer & same_serial
 }
 
 // What the table says of two kinds; of a number that is no kind it says no.

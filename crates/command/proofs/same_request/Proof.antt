@@ -1,4 +1,4 @@
--- `command::same_request` meets its contract: the tests of proposer and serial are the definition's, in its order.
+-- `command::same_request` meets its contract: the tests of proposer and serial are the definition's.
 -- Assumes nothing.
 use mathlib.Core.Path.{sym}
 use Rattle.command.specs.Command.{sameRequest}
@@ -20,19 +20,7 @@ serial-requires-2 c κs = search needs
 
 returns : tie.Need-returns
 unfolding sameRequest
-returns c =
-    let proposers = c .before .before in
-    rw (
-      sym (proposers .before .before .proposer .ensures),
-      sym (proposers .before .proposer2 .ensures),
-      proposers .if1 .taken,
-      sym (c .before .serial .ensures),
-      sym (c .serial2 .ensures),
-    )
-
-returns-2 : tie.Need-returns-2
-unfolding sameRequest
-returns-2 c = rw (sym (c .before .before .proposer .ensures), sym (c .before .proposer2 .ensures), c .if1 .left)
+returns c = rw (sym (c .before .before .before .proposer .ensures), sym (c .before .before .proposer2 .ensures), sym (c .before .serial .ensures), sym (c .serial2 .ensures))
 
 pub same-request-spec : {M : Type 1} → statement M
 same-request-spec =
@@ -42,5 +30,4 @@ same-request-spec =
     proposer-requires-2
     serial-requires
     serial-requires-2
-    returns
-    returns-2)
+    returns)
