@@ -2,3 +2,4 @@
 mod Scans
 mod Moves
 mod Turns
+mod Marks

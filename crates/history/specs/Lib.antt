@@ -9,6 +9,7 @@ pub mod OrderLaws
 pub mod ValidLaws
 pub mod Front
 pub mod FrontLaws
+pub mod Marks
 pub mod Words
 pub mod WordsLaws
 pub mod FitLaws

@@ -1,11 +1,18 @@
 // Histories: the test for a repeated proposer and serial, canonical order, and extension.
 ghost use mathlib.Core.Path.{_≡_};
+ghost use mathlib.Core.Bool.{true};
 ghost use Prim.Native.Nat.{_≤_, _<_};
 ghost use lib.ListN.{length, take, drop, getD};
 ghost use Rattle.history.specs.History as spec;
 ghost use Rattle.history.specs.Insertion as insertion;
 ghost use Rattle.history.specs.Front as front;
 ghost use Rattle.history.specs.Words as words;
+ghost use Rattle.history.specs.Marks as marks;
+
+// How many marks the test for a repeated proposer and serial has, and up to how many commands it does without them.
+const MARKS: usize = 256;
+
+const FEW: usize = 6;
 
 // A history by value: the first `count` words. The words after them mean nothing.
 #[repr(C)]
@@ -29,8 +36,44 @@ pub fn present(c: u64, h: &[u64]) -> bool
     false
 }
 
-// Whether two commands of h have one proposer and serial.
-pub fn repeated(h: &[u64]) -> bool
+// The number of c's mark: one for all commands of a proposer and serial.
+fn mark(c: u64) -> usize
+    ensures { λ r. ⌜ r ≡ marks.mark c ⌝ }
+{
+    (command::serial(c) as usize + 157 * command::proposer(c) as usize) % MARKS
+}
+
+// Whether some command of h has c's proposer and serial, where the marks of all commands of h are set.
+fn met(c: u64, h: &[u64], seen: &[bool; MARKS]) -> bool
+    requires { ⌜ marks.marked (now seen) (now h) ≡ true ⌝ }
+    ensures { λ r. ⌜ r ≡ spec.present c (now (h .entry)) ⌝ }
+{
+    let at = mark(c);
+    let known = seen[at];
+    if known { present(c, h) } else { false }
+}
+
+// `repeated` by marks, from the last command to the first: only a command whose mark is set is compared with those after it.
+fn repeated_by_marks(h: &[u64]) -> bool
+    ensures { λ r. ⌜ r ≡ spec.repeated (now (h .entry)) ⌝ }
+{
+    let mut seen = [false; MARKS];
+    let mut i = h.len();
+    while 0 < i {
+        let c = h[i - 1];
+        let again = met(c, &h[i..], &seen);
+        if again {
+            return true;
+        }
+        let at = mark(c);
+        seen[at] = true;
+        i -= 1;
+    }
+    false
+}
+
+// `repeated` by comparing each command with those after it.
+fn repeated_by_pairs(h: &[u64]) -> bool
     ensures { λ r. ⌜ r ≡ spec.repeated (now (h .entry)) ⌝ }
 {
     let mut i: usize = 0;
@@ -42,6 +85,17 @@ pub fn repeated(h: &[u64]) -> bool
         i += 1;
     }
     false
+}
+
+// Whether two commands of h have one proposer and serial. Of a few commands each two are compared, which is quicker than clearing the marks.
+pub fn repeated(h: &[u64]) -> bool
+    ensures { λ r. ⌜ r ≡ spec.repeated (now (h .entry)) ⌝ }
+{
+    if h.len() <= FEW {
+        repeated_by_pairs(h)
+    } else {
+        repeated_by_marks(h)
+    }
 }
 
 // Whether h is a valid history: valid commands, no proposer and serial twice, canonical order. This is what CONFIG asks besides the length;

@@ -1,4 +1,4 @@
--- `history::repeated` meets its contract: the loop keeps that the answer for the whole slice is the answer for what is left of it.
+-- `history::repeated_by_pairs` meets its contract: the loop keeps that the answer for the whole slice is the answer for what is left of it.
 -- Assumes nothing.
 use Prim.Native.Nat.{_≤_, _-_}
 use native.Mathlib.Omega.{arith}
@@ -7,8 +7,8 @@ use borrow.Author.Needs.{needs}
 use lib.ListN.{length, drop}
 use Rattle.history.specs.History.{repeated}
 use Rattle.history.proofs.Scans.{repeated-stop, repeated-more, repeated-end, tail-part}
-use Rattle.history.proofs.repeated.Statement.{statement}
-use Rattle.history.proofs.repeated.Tie as tie
+use Rattle.history.proofs.repeated_by_pairs.Statement.{statement}
+use Rattle.history.proofs.repeated_by_pairs.Tie as tie
 
 abbrev Inv-loop : tie.InvT-loop
 Inv-loop h i₀ i = (i ≤ length h) × (repeated (drop i h) ≡ repeated h)
@@ -64,8 +64,8 @@ loop-again c =
 returns-2 : tie.Need-returns-2 Inv-loop μ-loop
 returns-2 c = sym (repeated-end _ (c .before .loop .i) (omega arith)) ∙ c .before .loop .inv .1
 
-pub repeated-spec : {M : Type 1} → statement M
-repeated-spec =
+pub repeated-by-pairs-spec : {M : Type 1} → statement M
+repeated-by-pairs-spec =
     tie.close
     (tie.spec
     Inv-loop
