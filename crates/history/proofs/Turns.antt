@@ -1,14 +1,15 @@
 -- One turn of the loops that move commands, and what they leave at their end.
 use mathlib.Core.Path.{_≡_, refl, sym, ap, ap₂, _∙_, subst}
-use mathlib.Core.Bool.{Bool, true, false, _&&_}
+use mathlib.Core.Bool.{Bool, true, false, _&&_, and-false}
 use mathlib.Core.List.{List, [], _∷_, _++_, append-nil, append-assoc}
 use Prim.Native.Nat.{ℕ, zero, suc, _+_, _-_, _≤_, _<_}
 use native.Mathlib.Omega.{arith}
 use native.Mathlib.Numerals.{add-one}
+use borrow.Author.Tests.{le-ltb}
 use lib.ListN.{length, take, drop, getD, drop-of-length-le, length-drop, take-append-drop}
 use lib.Seq.{take-take, take-all, append-snoc, drop-drop, getD-drop}
 use Rattle.history.specs.History.{comesOff, without, extends}
-use Rattle.history.specs.Insertion.{place, insert, arrange}
+use Rattle.history.specs.Insertion.{clear, place, insert, arrange, Bounded, none, more}
 use Rattle.history.specs.Front.{rotated, fronted, offAt}
 use Rattle.history.specs.FrontLaws.{Standing, off-at-standing, off-at-absent}
 use Rattle.history.proofs.Scans.{drop-next}
@@ -25,18 +26,37 @@ inserted : (h : List ℕ) (i at : ℕ) → at ≤ i → at ≡ place (getD h i 0
 unfolding insert
 inserted h i at p e = rw (← e, take-take at i h p)
 
--- what the loop keeps at position i: the first i commands, with the others inserted, are the answer m₀; the length is n₀
-pub record Arranging (h : List ℕ) (i n₀ : ℕ) (m₀ : List ℕ) : Type 0 where
+-- a command at least as large as all before it has its place behind them
+pub place-bounded : {top : ℕ} {m : List ℕ} (c : ℕ) → top ≤ c → Bounded top m → place c m ≡ length m
+unfolding place
+place-bounded c p none = refl
+place-bounded c p (more {c = d} {h = m} q b) = rw (le-ltb c d (omega arith), and-false (clear c (d ∷ m))) (ap suc (place-bounded c p b))
+
+bounded-up : {top r : ℕ} {m : List ℕ} → top ≤ r → Bounded top m → Bounded r m
+bounded-up p none = none
+bounded-up p (more {c = d} l b) = more {c = d} (omega arith) (bounded-up p b)
+
+-- with one command more, wherever it goes, the larger of it and the bound is a bound
+bounded-more : {top : ℕ} (r c at : ℕ) {m : List ℕ} → top ≤ r → c ≤ r → Bounded top m → Bounded r (take at m ++ c ∷ drop at m)
+bounded-more r c zero p q none = more q none
+bounded-more r c (suc at) p q none = more q none
+bounded-more r c zero p q (more {c = d} l b) = more q (more {c = d} (omega arith) (bounded-up p b))
+bounded-more r c (suc at) p q (more {c = d} l b) = more {c = d} (omega arith) (bounded-more r c at p q b)
+
+-- what the loop keeps at position i: the first i commands, with the others inserted, are the answer m₀, and none of the first i is over `top`;
+-- the length is n₀
+pub record Arranging (h : List ℕ) (i top n₀ : ℕ) (m₀ : List ℕ) : Type 0 where
   pub inside : i ≤ length h
   pub size : length h ≡ n₀
   pub rest : arrange (take i h) (drop i h) ≡ m₀
+  pub bound : Bounded top (take i h)
 
 -- the command at i goes to its place among the first i
-pub arrange-turn : (h : List ℕ) (i at n₀ : ℕ) (m₀ ys : List ℕ) → Arranging h i n₀ m₀ → at ≤ i → i < length h → at ≡ place (getD h i 0) (take i h)
-    → ys ≡ rotated (take (i + 1 - at) (drop at h)) → Arranging (take at h ++ (ys ++ drop (i + 1 - at) (drop at h))) (i + 1) n₀ m₀
-arrange-turn h i at n₀ m₀ ys inv p q e f = subst (λ (l : List ℕ). Arranging (take at h ++ (l ++ drop (i + 1 - at) (drop at h))) (i + 1) n₀ m₀) (sym f) turned
+pub arrange-turn : (h : List ℕ) (i at top r n₀ : ℕ) (m₀ ys : List ℕ) → Arranging h i top n₀ m₀ → at ≤ i → i < length h → at ≡ place (getD h i 0) (take i h)
+    → top ≤ r → getD h i 0 ≤ r → ys ≡ rotated (take (i + 1 - at) (drop at h)) → Arranging (take at h ++ (ys ++ drop (i + 1 - at) (drop at h))) (i + 1) r n₀ m₀
+arrange-turn h i at top r n₀ m₀ ys inv p q e t u f = subst (λ (l : List ℕ). Arranging (take at h ++ (l ++ drop (i + 1 - at) (drop at h))) (i + 1) r n₀ m₀) (sym f) turned
   where
-    turned : Arranging (moved h at i) (i + 1) n₀ m₀
+    turned : Arranging (moved h at i) (i + 1) r n₀ m₀
     turned =
         record {
           inside = omega (arith, moved-length h at i p q);
@@ -44,6 +64,7 @@ arrange-turn h i at n₀ m₀ ys inv p q e f = subst (λ (l : List ℕ). Arrangi
           rest =
               ap₂ arrange (moved-take h at i p q ∙ inserted h i at p e) (moved-drop h at i p q)
               ∙ sym (arrange-next (take i h) (getD h i 0) (drop (i + 1) h)) ∙ ap (arrange (take i h)) (sym (drop-next h i q)) ∙ inv .rest;
+          bound = rw (moved-take h at i p q, ← take-take at i h p) (bounded-more r (getD h i 0) at t u (inv .bound));
         }
 
 pub arrange-end : (h : List ℕ) (i : ℕ) → length h ≤ i → arrange (take i h) (drop i h) ≡ h

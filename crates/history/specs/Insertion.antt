@@ -2,7 +2,7 @@
 -- `arrange-canonical` and `stays-canonical` (InsertionLaws.antt) say that this is the order of History.antt.
 use mathlib.Core.Bool.{Bool, true, false, not, cond, _&&_, _||_}
 use mathlib.Core.List.{List, [], _∷_, _++_}
-use Prim.Native.Nat.{ℕ, zero, suc}
+use Prim.Native.Nat.{ℕ, zero, suc, _≤_}
 use lib.Dec.{eqb, ltb}
 use lib.ListN.{length, take, drop, getD}
 use Rattle.command.specs.Command.{conflict}
@@ -34,3 +34,8 @@ stays m (c ∷ h) = eqb (place c m) (length m) && stays (m ++ c ∷ []) h
 unfoldable pub walk : ℕ → List ℕ → ℕ → ℕ → ℕ
 walk c h zero at = at
 walk c h (suc k) at = cond (conflict c (getD h k 0)) at (walk c h k (cond (ltb c (getD h k 0)) k at))
+
+-- no command of a list is over `top`
+pub data Bounded (top : ℕ) : List ℕ → Type 0 where
+  none : Bounded top []
+  more : {c : ℕ} {h : List ℕ} → c ≤ top → Bounded top h → Bounded top (c ∷ h)

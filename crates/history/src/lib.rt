@@ -12,7 +12,7 @@ ghost use Rattle.history.specs.Marks as marks;
 // How many marks the test for a repeated proposer and serial has, and up to how many commands it does without them.
 const MARKS: usize = 256;
 
-const FEW: usize = 6;
+const FEW: usize = 4;
 
 // A history by value: the first `count` words. The words after them mean nothing.
 #[repr(C)]
@@ -214,13 +214,30 @@ fn rotate(s: &mut [u64])
     }
 }
 
+// `place` where no command before n is over `largest`: a command at least as large stays.
+fn place_below(h: &[u64], n: usize, largest: u64) -> usize
+    requires { ⌜ (n < length (now h)) × (insertion.Bounded largest (take n (now h))) ⌝ }
+    ensures { λ r. ⌜ (r ≤ n) × (r ≡ insertion.place (getD (now (h .entry)) n 0) (take n (now (h .entry)))) ⌝ }
+{
+    if largest <= h[n] { n } else { place(h, n) }
+}
+
+// The larger of two commands.
+fn larger(a: u64, b: u64) -> u64
+    ensures { λ r. ⌜ (a ≤ r) × (b ≤ r) ⌝ }
+{
+    if a < b { b } else { a }
+}
+
 // Puts h in canonical order.
 pub fn put_in_order(h: &mut [u64])
     ensures { λ r. ⌜ now (h .exit) ≡ spec.canonical (now (h .entry)) ⌝ }
 {
+    let mut largest: u64 = 0;
     let mut i: usize = 0;
     while i < h.len() {
-        let at = place(h, i);
+        let at = place_below(h, i, largest);
+        largest = larger(largest, h[i]);
         rotate(&mut h[at..i + 1]);
         i += 1;
     }

@@ -6,22 +6,32 @@ use mathlib.Core.Path.{sym, _∙_}
 use borrow.Author.Needs.{needs}
 use lib.ListN.{length}
 use Rattle.history.specs.History.{canonical}
+use Rattle.history.specs.Insertion.{none}
 use Rattle.history.specs.InsertionLaws.{arrange-canonical}
 use Rattle.history.proofs.Turns.{Arranging, arrange-turn, arrange-end}
 use Rattle.history.proofs.put_in_order.Statement.{statement}
 use Rattle.history.proofs.put_in_order.Tie as tie
 
 abbrev Inv-loop : tie.InvT-loop
-Inv-loop h₀ i₀ h i = Arranging h i (length h₀) (canonical h₀)
+Inv-loop h₀ largest₀ i₀ h largest i = Arranging h i largest (length h₀) (canonical h₀)
 
 abbrev μ-loop : tie.MeasureT-loop
-μ-loop h₀ i₀ h i = length h₀ - i
+μ-loop h₀ largest₀ i₀ h largest i = length h₀ - i
 
 loop-holds : tie.Need-loop-holds Inv-loop μ-loop
-loop-holds c = record { inside = search needs; size = search needs; rest = arrange-canonical _ }
+loop-holds c = record { inside = search needs; size = search needs; rest = arrange-canonical _; bound = none }
 
-place-requires : tie.Need-place-requires Inv-loop μ-loop
-place-requires c κs = search needs
+place-below-requires : tie.Need-place-below-requires Inv-loop μ-loop
+place-below-requires c κs = (search needs, c .before .before .loop .inv .bound)
+
+mul-larger : tie.Need-mul-larger Inv-loop μ-loop
+mul-larger c = search needs
+
+slice-read-larger : tie.Need-slice-read-larger Inv-loop μ-loop
+slice-read-larger c = search needs
+
+larger-requires : tie.Need-larger-requires Inv-loop μ-loop
+larger-requires c κs = search needs
 
 add-rotate : tie.Need-add-rotate Inv-loop μ-loop
 add-rotate c = search needs
@@ -49,10 +59,7 @@ loop-less c = search needs
 
 loop-again : tie.Need-loop-again Inv-loop μ-loop
 loop-again c =
-    let turn = c .before .before .before .before .before .before .before .loop in
-    let place-call = c .before .before .before .before .place in
-    let rotate-call = c .before .before .rotate in
-    arrange-turn (turn .h) (turn .i) (place-call .result) _ _ (rotate-call .last .0) (turn .inv) (place-call .ensures .0) (omega arith) (place-call .ensures .1) (rotate-call .ensures)
+    arrange-turn (c .before .before .before .before .before .before .before .before .before .loop .h) (c .before .before .before .before .before .before .before .before .before .loop .i) (c .before .before .before .before .before .before .place-below .result) _ _ _ _ (c .before .before .rotate .last .0) (c .before .before .before .before .before .before .before .before .before .loop .inv) (c .before .before .before .before .before .before .place-below .ensures .0) (omega arith) (c .before .before .before .before .before .before .place-below .ensures .1) (c .before .before .before .before .larger .ensures .0) (c .before .before .before .before .larger .ensures .1) (c .before .before .rotate .ensures)
 
 same-length : tie.Need-same-length Inv-loop μ-loop
 same-length c = search needs
@@ -67,7 +74,10 @@ put-in-order-spec =
     Inv-loop
     μ-loop
     loop-holds
-    place-requires
+    place-below-requires
+    mul-larger
+    slice-read-larger
+    larger-requires
     add-rotate
     mul-rotate
     sub-rotate
