@@ -10,7 +10,7 @@ use borrow.Author.Tests.{eq-eqb, ne-eqb, lt-ltb, le-ltb}
 use lib.Dec.{eqb, ltb}
 use lib.ListN.{length, take, drop, getD, set, drop-of-length-le, length-drop, length-set}
 use lib.Seq.{take-length, drop-cons, take-suc, take-all, length-take-le, append-snoc, take-suc-set, drop-set-lt, getD-drop, getD-take, drop-drop}
-use Rattle.history.specs.Words.{padded}
+use Rattle.history.specs.Words.{cleared}
 use Rattle.command.specs.Command.{conflict, sameRequest}
 use Rattle.history.specs.History.{present, repeated, canonical, equal, isCanonical}
 use Rattle.history.specs.Insertion.{place, clear, insert, arrange, stays, walk}
@@ -112,18 +112,6 @@ unfolding walk
 walk-end c h zero at p = refl
 walk-end c h (suc k) at p = absurd (omega arith)
 
--- a command at least as large as all before it has its place behind them
-pub place-largest : (c : ℕ) (m : List ℕ) → ((k : ℕ) → k < length m → getD m k 0 ≤ c) → place c m ≡ length m
-unfolding place
-place-largest c [] f = refl
-place-largest c (d ∷ m) f = rw (le-ltb c d (f 0 (omega arith)), and-false (clear c (d ∷ m))) (ap suc (place-largest c m (λ k p. f (suc k) (omega arith))))
-
-pub stays-largest : (h : List ℕ) (i top : ℕ) → i < length h → ((k : ℕ) → k < i → getD h k 0 ≤ top) → top ≤ getD h i 0
-    → stays (take i h) (drop i h) ≡ stays (take (i + 1) h) (drop (i + 1) h)
-stays-largest h i top p f q =
-    let size : length (take i h) ≡ i = length-take-le i h (omega arith) in
-    stays-more h i p (place-largest (getD h i 0) (take i h) (λ k r. rw (getD-take i h k 0 (omega arith)) (omega (arith, f k (omega arith)))) ∙ size)
-
 -- ---- where a command comes off
 
 pub find-here : (c : ℕ) (h : List ℕ) (i : ℕ) → i < length h → c ≡ getD h i 0 → i ≡ i + offAt c (drop i h)
@@ -152,15 +140,22 @@ pub shifted-end : (s : List ℕ) (k c : ℕ) → length s ≤ k → take k s ++ 
 unfolding shifted
 shifted-end s k c p = rw (drop-of-length-le s p, take-all k s p) (append-nil s)
 
-pub padded-more : (s l : List ℕ) (k : ℕ) → k < length s → take (k + 1) (set s k (getD l k 0)) ++ padded (length s - (k + 1)) (drop (k + 1) l) ≡ take k s ++ padded (length s - k) (drop k l)
-unfolding padded
-padded-more s l k p =
-    let e : length s - k ≡ suc (length s - (k + 1)) = omega arith in
-    rw (e, add-one, take-suc-set s k _ p, append-snoc, getD-drop, drop-drop, add-zero, add-one)
+-- the first words are the same after a copy of one more, and in two lists after one more that is the same
+pub copied-more : (s l : List ℕ) (k : ℕ) → k < length s → k < length l → take k s ≡ take k l → take (k + 1) (set s k (getD l k 0)) ≡ take (k + 1) l
+copied-more s l k p q e = rw (add-one, take-suc-set s k _ p, take-suc l k 0 q, e)
 
-pub padded-end : (s l : List ℕ) (k : ℕ) → length s ≤ k → take k s ++ padded (length s - k) (drop k l) ≡ s
-unfolding padded
-padded-end s l k p =
+pub common-more : (h g : List ℕ) (k : ℕ) → k < length h → k < length g → getD h k 0 ≡ getD g k 0 → take k h ≡ take k g → take (k + 1) h ≡ take (k + 1) g
+common-more h g k p q c e = rw (add-one, take-suc h k 0 p, take-suc g k 0 q, c, e)
+
+pub cleared-more : (s : List ℕ) (k : ℕ) → k < length s → cleared (set s k 0) (k + 1) ≡ cleared s k
+unfolding cleared
+cleared-more s k p =
+    let e : length s - k ≡ suc (length s - (k + 1)) = omega arith in
+    rw (length-set, e, add-one, take-suc-set s k 0 p, append-snoc)
+
+pub cleared-end : (s : List ℕ) (k : ℕ) → length s ≤ k → cleared s k ≡ s
+unfolding cleared
+cleared-end s k p =
     let e : length s - k ≡ 0 = omega arith in
     rw (e, take-all k s p) (append-nil s)
 
@@ -172,6 +167,3 @@ rotated-nil (c ∷ s) p = absurd (omega arith)
 pub rotated-start : (s : List ℕ) → shifted (getD s (length s - 1) 0) s ≡ rotated s
 unfolding rotated
 rotated-start s = refl
-
-pub padded-start : (s l : List ℕ) → padded (length s - 0) l ≡ padded (length s) l
-padded-start s l = rw sub-zero

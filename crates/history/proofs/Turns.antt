@@ -12,7 +12,7 @@ use Rattle.history.specs.History.{comesOff, without, extends}
 use Rattle.history.specs.Insertion.{clear, place, insert, arrange, Bounded, none, more}
 use Rattle.history.specs.Front.{rotated, fronted, offAt}
 use Rattle.history.specs.FrontLaws.{Standing, off-at-standing, off-at-absent}
-use Rattle.history.proofs.Scans.{drop-next}
+use Rattle.history.proofs.Scans.{drop-next, take-next}
 use Rattle.history.proofs.Moves.{moved, moved-take, moved-drop, moved-head, moved-rest, moved-length}
 
 -- ---- putting in order
@@ -42,6 +42,14 @@ bounded-more r c zero p q none = more q none
 bounded-more r c (suc at) p q none = more q none
 bounded-more r c zero p q (more {c = d} l b) = more q (more {c = d} (omega arith) (bounded-up p b))
 bounded-more r c (suc at) p q (more {c = d} l b) = more {c = d} (omega arith) (bounded-more r c at p q b)
+
+-- also at the end
+pub bounded-next : (h : List ℕ) (i top r : ℕ) → i < length h → top ≤ r → getD h i 0 ≤ r → Bounded top (take i h) → Bounded r (take (i + 1) h)
+bounded-next h i top r l p q b = rw take-next (at-end (take i h) b)
+  where
+    at-end : (m : List ℕ) → Bounded top m → Bounded r (m ++ getD h i 0 ∷ [])
+    at-end [] none = more q none
+    at-end (d ∷ m) (more l b) = more {c = d} (omega arith) (at-end m b)
 
 -- what the loop keeps at position i: the first i commands, with the others inserted, are the answer m₀, and none of the first i is over `top`;
 -- the length is n₀

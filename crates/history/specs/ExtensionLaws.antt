@@ -2,7 +2,7 @@
 use mathlib.Core.Path.{_≡_, refl, sym, ap, _∙_, subst}
 use mathlib.Core.Bool.{Bool, true, false, not, cond, _&&_, _||_, true≢false}
 use mathlib.Core.List.{List, [], _∷_, _++_, append-nil, append-assoc}
-use Prim.Native.Nat.{ℕ, zero, suc, _+_, _≤_}
+use Prim.Native.Nat.{ℕ, zero, suc, _+_, _≤_, _<_}
 use native.Mathlib.Omega.{arith}
 use borrow.Author.Tests.{eqb-true, eq-eqb, eqb-false, ne-eqb}
 use lib.Dec.{eqb}
@@ -117,3 +117,11 @@ extends-complete p = complete (extends-below p)
 
 pub extends-refuted : (h g : List ℕ) → extends h g ≡ false → Extends h g → ⊥
 extends-refuted h g e p = true≢false (sym (extends-complete p) ∙ e)
+
+-- a shorter history extends none
+pub extends-shorter : (h g : List ℕ) → length h < length g → extends h g ≡ false
+extends-shorter h g l = go (extends h g) refl
+  where
+    go : (b : Bool) → extends h g ≡ b → extends h g ≡ false
+    go true e = absurd (omega (arith, extends-length (extends-sound h g e)))
+    go false e = e

@@ -1,16 +1,16 @@
 -- Laws of bringing commands to the front.
-use mathlib.Core.Path.{_≡_, refl, sym, ap, _∙_, subst}
+use mathlib.Core.Path.{_≡_, refl, sym, ap, ap₂, _∙_, subst}
 use mathlib.Core.Bool.{Bool, true, false, not, cond, _&&_, _||_, true≢false}
 use mathlib.Core.List.{List, [], _∷_, _++_, append-nil}
 use Prim.Native.Nat.{ℕ, zero, suc, _+_, _-_, _≤_, _<_}
 use native.Mathlib.Omega.{arith}
 use borrow.Author.Tests.{eqb-true, eq-eqb, ltb-true, lt-ltb, le-ltb}
 use lib.Dec.{eqb, ltb}
-use lib.ListN.{length, take, drop, getD, length-append}
-use lib.Seq.{getD-append-seam}
+use lib.ListN.{length, take, drop, getD, length-append, take-append-drop}
+use lib.Seq.{getD-append-seam, take-length, drop-length}
 use native.Mathlib.Numerals.{add-one, sub-one}
 use Rattle.command.specs.Command.{conflict}
-use Rattle.history.specs.History.{Equivalent, same, keep, trans, comesOff, without}
+use Rattle.history.specs.History.{Equivalent, same, keep, trans, comesOff, without, extends}
 use Rattle.history.specs.TakesLaws.{takes-equivalent}
 use Rattle.history.specs.ExtensionLaws.{comes-off-takes}
 use Rattle.history.specs.Front.{offAt, fronted, shifted, rotated}
@@ -72,3 +72,20 @@ off-at-le c (d ∷ h) = go (eqb c d) (conflict c d) (off-at-le c h)
     go true b ih = omega arith
     go false true ih = omega arith
     go false false ih = omega arith
+
+-- the same commands in front of two histories make no difference to extension
+pub extends-before : (p h g : List ℕ) → extends (p ++ h) (p ++ g) ≡ extends h g
+unfolding extends comesOff without
+extends-before [] h g = refl
+extends-before (c ∷ p) h g = rw (eq-eqb c c refl) (extends-before p h g)
+
+pub extends-past : (h g : List ℕ) (k : ℕ) → take k h ≡ take k g → extends (drop k h) (drop k g) ≡ extends h g
+extends-past h g k e =
+    sym (extends-before (take k h) (drop k h) (drop k g))
+    ∙ ap₂ extends (take-append-drop k h) (ap (λ (l : List ℕ). l ++ drop k g) e ∙ take-append-drop k g)
+
+-- so a history extends its first commands
+pub extends-first : (h g : List ℕ) → take (length g) h ≡ g → extends h g ≡ true
+unfolding extends
+extends-first h g e =
+    sym (extends-past h g (length g) (e ∙ sym (take-length g))) ∙ ap (extends (drop (length g) h)) (drop-length g)

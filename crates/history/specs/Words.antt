@@ -1,9 +1,9 @@
 -- Histories in arrays and by value. The words after a history's commands mean nothing; `fill` and `History::of` write zeros there.
 use mathlib.Core.Bool.{Bool, _&&_}
-use mathlib.Core.List.{List, [], _∷_}
-use Prim.Native.Nat.{ℕ, zero, suc, min}
+use mathlib.Core.List.{List, [], _∷_, _++_}
+use Prim.Native.Nat.{ℕ, zero, suc, _-_, min}
 use lib.Dec.{leb}
-use lib.ListN.{length, getD, take, drop}
+use lib.ListN.{length, getD, take, drop, replicate}
 use Rattle.history.specs.declared.History.{History}
 use Rattle.history.specs.History.{validHistory, extends}
 
@@ -15,6 +15,10 @@ limit = 32
 unfoldable pub padded : ℕ → List ℕ → List ℕ
 padded zero l = []
 padded (suc n) l = getD l 0 0 ∷ padded n (drop 1 l)
+
+-- a list with zeros from n on
+unfoldable pub cleared : List ℕ → ℕ → List ℕ
+cleared l n = take n l ++ replicate (length l - n) 0
 
 -- the commands of a history by value: its first `count` words
 abbrev pub commands : History → List ℕ

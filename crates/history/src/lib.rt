@@ -61,8 +61,8 @@ fn repeated_by_marks(h: &[u64]) -> bool
     let mut i = h.len();
     while 0 < i {
         let c = h[i - 1];
-        let again = met(c, &h[i..], &seen);
-        if again {
+        let repeat = met(c, &h[i..], &seen);
+        if repeat {
             return true;
         }
         let at = mark(c);
@@ -175,23 +175,33 @@ fn place(h: &[u64], n: usize) -> usize
     at
 }
 
-// Whether h is in canonical order. A command at least as large as all before it is in its place; of a smaller one the place is looked for.
+// `place` where no command before n is over `largest`: a command at least as large stays.
+fn place_below(h: &[u64], n: usize, largest: u64) -> usize
+    requires { ⌜ (n < length (now h)) × (insertion.Bounded largest (take n (now h))) ⌝ }
+    ensures { λ r. ⌜ (r ≤ n) × (r ≡ insertion.place (getD (now (h .entry)) n 0) (take n (now (h .entry)))) ⌝ }
+{
+    if largest <= h[n] { n } else { place(h, n) }
+}
+
+// The larger of two commands.
+fn larger(a: u64, b: u64) -> u64
+    ensures { λ r. ⌜ (a ≤ r) × (b ≤ r) ⌝ }
+{
+    if a < b { b } else { a }
+}
+
+// Whether h is in canonical order: whether each command has its place where it stands.
 pub fn is_canonical(h: &[u64]) -> bool
     ensures { λ r. ⌜ r ≡ spec.isCanonical (now (h .entry)) ⌝ }
 {
     let mut largest: u64 = 0;
-    let mut next: usize = 0;
-    while next < h.len() {
-        let at = next;
-        next += 1;
-        let c = h[at];
-        if c < largest {
-            if place(h, at) != at {
-                return false;
-            }
-        } else {
-            largest = c;
+    let mut i: usize = 0;
+    while i < h.len() {
+        if place_below(h, i, largest) != i {
+            return false;
         }
+        largest = larger(largest, h[i]);
+        i += 1;
     }
     true
 }
@@ -212,21 +222,6 @@ fn rotate(s: &mut [u64])
         carry = d;
         k += 1;
     }
-}
-
-// `place` where no command before n is over `largest`: a command at least as large stays.
-fn place_below(h: &[u64], n: usize, largest: u64) -> usize
-    requires { ⌜ (n < length (now h)) × (insertion.Bounded largest (take n (now h))) ⌝ }
-    ensures { λ r. ⌜ (r ≤ n) × (r ≡ insertion.place (getD (now (h .entry)) n 0) (take n (now (h .entry)))) ⌝ }
-{
-    if largest <= h[n] { n } else { place(h, n) }
-}
-
-// The larger of two commands.
-fn larger(a: u64, b: u64) -> u64
-    ensures { λ r. ⌜ (a ≤ r) × (b ≤ r) ⌝ }
-{
-    if a < b { b } else { a }
 }
 
 // Puts h in canonical order.
@@ -279,22 +274,36 @@ pub fn bring(work: &mut [u64], g: &[u64]) -> bool
     true
 }
 
-// The word at i, or 0 past the end.
-fn word(src: &[u64], i: usize) -> u64
-    ensures { λ r. ⌜ r ≡ getD (now (src .entry)) i 0 ⌝ }
+// Copies src to the front of dst.
+fn copy(dst: &mut [u64], src: &[u64])
+    requires { ⌜ length (now src) ≤ length (now dst) ⌝ }
+    ensures { λ r. ⌜ (length (now (dst .exit)) ≡ length (now (dst .entry))) × (take (length (now (src .entry))) (now (dst .exit)) ≡ now (src .entry)) ⌝ }
 {
-    if i < src.len() { src[i] } else { 0 }
+    let mut i: usize = 0;
+    while i < src.len() {
+        dst[i] = src[i];
+        i += 1;
+    }
+}
+
+// Writes zeros from `from` on.
+fn clear(dst: &mut [u64], from: usize)
+    ensures { λ r. ⌜ now (dst .exit) ≡ words.cleared (now (dst .entry)) from ⌝ }
+{
+    let mut i = from;
+    while i < dst.len() {
+        dst[i] = 0;
+        i += 1;
+    }
 }
 
 // Fills dst with the words of src, and with zeros where src has no more.
 pub fn fill(dst: &mut [u64], src: &[u64])
     ensures { λ r. ⌜ now (dst .exit) ≡ words.padded (length (now (dst .entry))) (now (src .entry)) ⌝ }
 {
-    let mut i: usize = 0;
-    while i < dst.len() {
-        dst[i] = word(src, i);
-        i += 1;
-    }
+    let fit = first(src, dst.len());
+    copy(dst, fit);
+    clear(dst, fit.len());
 }
 
 // The most commands of an extension that is tested: a union of two histories of 32.
@@ -305,21 +314,52 @@ fn extends_in(work: &mut [u64], h: &[u64], g: &[u64]) -> bool
     requires { ⌜ length (now work) ≡ length (now h) ⌝ }
     ensures { λ r. ⌜ r ≡ spec.extends (now (h .entry)) (now (g .entry)) ⌝ }
 {
-    fill(work, h);
+    copy(work, h);
     bring(work, g)
+}
+
+// How many first commands of g are the first of h.
+fn common(h: &[u64], g: &[u64]) -> usize
+    requires { ⌜ length (now g) ≤ length (now h) ⌝ }
+    ensures { λ r. ⌜ (r ≤ length (now (g .entry))) × (take r (now (h .entry)) ≡ take r (now (g .entry))) ⌝ }
+{
+    let mut i: usize = 0;
+    while i < g.len() {
+        if h[i] != g[i] {
+            return i;
+        }
+        i += 1;
+    }
+    i
+}
+
+// Whether h extends g, where the first k commands of both are the same.
+fn extends_past(h: &[u64], g: &[u64], k: usize) -> bool
+    requires { ⌜ (length (now h) ≤ 64) × (k ≤ length (now h)) × (k ≤ length (now g)) × (take k (now h) ≡ take k (now g)) ⌝ }
+    ensures { λ r. ⌜ r ≡ spec.extends (now (h .entry)) (now (g .entry)) ⌝ }
+{
+    let n = h.len() - k;
+    let mut work = [0u64; WORK];
+    extends_in(&mut work[..n], &h[k..], &g[k..])
 }
 
 // Whether h extends g, of an h of at most 64 commands; a longer one extends nothing here.
 pub fn extends(h: &[u64], g: &[u64]) -> bool
     ensures { λ r. ⌜ r ≡ words.extendsWithin 64 (now (h .entry)) (now (g .entry)) ⌝ }
 {
-    let n = h.len();
-    let fits = n <= WORK;
+    let fits = h.len() <= WORK;
     if !fits {
         return false;
     }
-    let mut work = [0u64; WORK];
-    extends_in(&mut work[..n], h, g)
+    if h.len() < g.len() {
+        return false;
+    }
+    let k = common(h, g);
+    if k == g.len() {
+        true
+    } else {
+        extends_past(h, g, k)
+    }
 }
 
 impl History {

@@ -1,54 +1,44 @@
--- `history::extends` meets its contract: at most 64 commands are tried in a copy, and a longer list extends nothing.
+-- `history::extends` meets its contract: a list of over 64 commands extends nothing, a shorter one does not extend, one that starts with g does,
+-- and else what is left after the same first commands decides.
 -- Assumes nothing.
-use mathlib.Core.Path.{_≡_, sym}
-use mathlib.Core.Bool.{false, not}
-use mathlib.Core.List.{List}
-use Prim.Native.Nat.{ℕ, _≤_}
+use mathlib.Core.Path.{_≡_, sym, ap, _∙_}
+use mathlib.Core.Bool.{true, and-false}
 use native.Mathlib.Omega.{arith}
+use Prim.Native.Nat.{_≤_}
 use borrow.Author.Needs.{needs}
 use borrow.Author.Tests.{not-true, not-false, leb-true}
 use lib.Dec.{leb}
-use lib.ListN.{length, replicate}
-use lib.Seq.{length-take-le}
+use lib.ListN.{length, take}
+use lib.Seq.{take-length}
+use Rattle.history.specs.ExtensionLaws.{extends-shorter}
+use Rattle.history.specs.FrontLaws.{extends-first}
 use Rattle.history.proofs.extends.Statement.{statement}
 use Rattle.history.proofs.extends.Tie as tie
 
 returns : tie.Need-returns
-returns c =
-    let given = c .before .before .before .args in
-    rw (not-true (leb (length (given .h .now)) 64) (c .if1 .taken))
-
--- h is at most as long as the copy's room
-short : (h : List ℕ) → not (leb (length h) 64) ≡ false → length h ≤ length {A = ℕ} (replicate 64 0)
-short h e = omega (arith, leb-true (length h) 64 (not-false (leb (length h) 64) e))
-
-array-borrow-prefix-work : tie.Need-array-borrow-prefix-work
-array-borrow-prefix-work c =
-    let given = c .before .before .before .args in
-    short (given .h .now) (c .if1 .left)
-
-slice-aggregate-extends-in : tie.Need-slice-aggregate-extends-in
-slice-aggregate-extends-in c =
-    let given = c .before .before .before .before .args in
-    sym (length-take-le (length (given .h .now)) (replicate 64 0) (short (given .h .now) (c .before .if1 .left)))
-
-extends-in-requires : tie.Need-extends-in-requires
-extends-in-requires c κs =
-    let given = c .before .before .before .before .args in
-    length-take-le (length (given .h .now)) (replicate 64 0) (short (given .h .now) (c .before .if1 .left))
+returns c = rw (not-true (leb (length (c .before .before .before .args .h .now)) 64) (c .if1 .taken))
 
 returns-2 : tie.Need-returns-2
-returns-2 c =
-    let given = c .before .before .before .before .before .before .args in
-    let if1 = c .before .before .before .if1 in
-    rw (not-false (leb (length (given .h .now)) 64) (if1 .left)) (c .before .extends-in .ensures)
+returns-2 c = rw (extends-shorter _ _ (c .if2 .taken), and-false)
+
+common-requires : tie.Need-common-requires
+common-requires c κs = search needs
+
+extends-past-requires : tie.Need-extends-past-requires
+extends-past-requires c κs =
+    let short : length (c .before .before .before .before .before .before .args .h .now) ≤ 64 = leb-true _ _ (not-false _ (c .before .before .before .if1 .left)) in
+    (short, omega arith, c .before .common .ensures .0, c .before .common .ensures .1)
+
+returns-3 : tie.Need-returns-3
+returns-3 c =
+    let same : take (length (c .before .before .before .before .before .before .args .g .now)) (c .before .before .before .before .before .before .args .h .now) ≡ c .before .before .before .before .before .before .args .g .now =
+    (rw (c .if3 .taken) at (c .before .common .ensures .1)) ∙ take-length (c .before .before .before .before .before .before .args .g .now) in
+    rw (not-false (leb (length (c .before .before .before .before .before .before .args .h .now)) 64) (c .before .before .before .if1 .left), extends-first _ _ same)
+
+returns-4 : tie.Need-returns-4
+returns-4 c = rw (not-false (leb (length (c .before .before .before .before .before .before .before .args .h .now)) 64) (c .before .before .before .before .if1 .left)) (c .extends-past .ensures)
 
 pub extends-spec : {M : Type 1} → statement M
 extends-spec =
     tie.close
-    (tie.spec
-    returns
-    array-borrow-prefix-work
-    slice-aggregate-extends-in
-    extends-in-requires
-    returns-2)
+    (tie.spec returns returns-2 common-requires extends-past-requires returns-3 returns-4)

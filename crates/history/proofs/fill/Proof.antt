@@ -1,64 +1,27 @@
--- `history::fill` meets its contract: the loop keeps that the first i words, and then what src has from i on, padded, are the filled slice.
+-- `history::fill` meets its contract: as many words as fit are copied, and the rest is cleared.
 -- Assumes nothing.
-use Prim.Native.Nat.{_≤_, _-_}
+use mathlib.Core.Path.{ap, _∙_}
 use native.Mathlib.Omega.{arith}
-use mathlib.Core.Path.{_≡_, sym, refl, _∙_}
-use mathlib.Core.List.{_++_}
 use borrow.Author.Needs.{needs}
-use lib.ListN.{length, take, drop, length-set}
-use Rattle.history.specs.Words.{padded}
-use Rattle.history.proofs.Scans.{padded-more, padded-end}
-use native.Mathlib.Nat.{sub-zero}
+use lib.ListN.{length, length-take}
+use Rattle.history.specs.WordsLaws.{filled}
 use Rattle.history.proofs.fill.Statement.{statement}
 use Rattle.history.proofs.fill.Tie as tie
 
-abbrev Inv-loop : tie.InvT-loop
-Inv-loop dst₀ src i₀ dst i = (i ≤ length dst) × (length dst ≡ length dst₀) × (take i dst ++ padded (length dst - i) (drop i src) ≡ padded (length dst₀) src)
+first-requires : tie.Need-first-requires
+first-requires c κs = search needs
 
-abbrev μ-loop : tie.MeasureT-loop
-μ-loop dst₀ src i₀ dst i = length dst₀ - i
+copy-requires : tie.Need-copy-requires
+copy-requires c κs = omega (arith, simp length-take at (ap length (c .before .first .ensures)))
 
-loop-holds : tie.Need-loop-holds Inv-loop μ-loop
-loop-holds c = (search needs, search needs, simp sub-zero)
+clear-requires : tie.Need-clear-requires
+clear-requires c κs = search needs
 
-word-requires : tie.Need-word-requires Inv-loop μ-loop
-word-requires c κs = search needs
-
-mul-dst : tie.Need-mul-dst Inv-loop μ-loop
-mul-dst c = search needs
-
-slice-write-dst : tie.Need-slice-write-dst Inv-loop μ-loop
-slice-write-dst c = search needs
-
-add-i : tie.Need-add-i Inv-loop μ-loop
-add-i c = search needs
-
-loop-less : tie.Need-loop-less Inv-loop μ-loop
-loop-less c = search needs
-
-loop-again : tie.Need-loop-again Inv-loop μ-loop
-loop-again c =
-    let turn = c .before .before .loop in
-    (simp length-set (search needs), simp length-set (search needs), rw (length-set, c .word .ensures) (padded-more _ _ (turn .i) (omega arith) ∙ turn .inv .2))
-
-same-length : tie.Need-same-length Inv-loop μ-loop
+same-length : tie.Need-same-length
 same-length c = search needs
 
-returns : tie.Need-returns Inv-loop μ-loop
-returns c = sym (padded-end _ _ (c .before .loop .i) (omega arith)) ∙ c .before .loop .inv .2
+returns : tie.Need-returns
+returns c = c .before .before .clear .ensures ∙ filled _ _ _ _ (c .before .before .before .before .before .before .copy .ensures .0) (c .before .before .before .before .before .before .before .before .first .ensures) (c .before .before .before .before .before .before .copy .ensures .1)
 
 pub fill-spec : {M : Type 1} → statement M
-fill-spec =
-    tie.close
-    (tie.spec
-    Inv-loop
-    μ-loop
-    loop-holds
-    word-requires
-    mul-dst
-    slice-write-dst
-    add-i
-    loop-less
-    loop-again
-    same-length
-    returns)
+fill-spec = tie.close (tie.spec first-requires copy-requires clear-requires same-length returns)
