@@ -1,107 +1,212 @@
 -- What a call returns and leaves in the buffer, in the words of the definitions.
-use mathlib.Core.Path.{_≡_, ap, _∙_}
-use mathlib.Core.Bool.{Bool, true, false, not, cond, _&&_}
-use mathlib.Core.List.{List}
-use Prim.Native.Nat.{ℕ, min, _≤_}
+use mathlib.Core.Path.{_≡_, refl, sym, ap, subst, _∙_}
+use mathlib.Core.Bool.{Bool, true, false, not, true≢false}
+use mathlib.Core.List.{List, [], _∷_, _++_, append-nil}
+use Prim.Native.Nat.{ℕ, zero, suc, min, _-_, _≤_}
 use native.Mathlib.Omega.{arith}
+use native.Mathlib.Nat.{sub-zero}
 use lib.Dec.{eqb}
-use lib.ListN.{length}
+use lib.ListN.{length, take, drop, length-take, length-drop, length-append, drop-of-length-le}
+use lib.Seq.{take-all, length-take-le}
+use borrow.Rule.Slice.PartMut.{midOf, putMid}
 use Rattle.roster.specs.declared.Roster.{Roster}
 use Rattle.roster.specs.declared.View.{View}
 use Rattle.roster.specs.declared.Ballot.{Ballot}
 use Rattle.roster.specs.Roster.{quorum}
-use Rattle.roster.specs.Mask.{reaches}
+use Rattle.roster.specs.Mask.{reaches, withSite}
 use Rattle.history.specs.declared.History.{History}
-use Rattle.history.specs.Words.{limit, commands, stored}
-use Rattle.history.specs.WordsLaws.{commands-stored}
-use Rattle.table.specs.declared.Table.{Table}
+use Rattle.history.specs.Words.{limit, padded, commands, stored}
+use Rattle.history.specs.WordsLaws.{length-padded, padded-whole, commands-stored, stored-first}
+use Rattle.merge.specs.Merge.{appended, appendedIn}
+use Rattle.merge.specs.AppendingLaws.{take-appended}
+use Rattle.table.specs.Table.{tableOf, storedIn}
+use Rattle.table.specs.TableLaws.{stored-in}
+use Rattle.proposal.specs.Proposal.{proposal, remaining}
 use Rattle.proposal.specs.ProposalLaws.{proposal-short}
 use Rattle.refusal.specs.declared.Refusal.the-variants.{Config, Stale}
 use Rattle.refusal.specs.declared.Answer.{Answer}
-use Rattle.refusal.specs.declared.Answer.the-variants.{Accepted}
+use Rattle.refusal.specs.declared.Answer.the-variants.{Accepted, Refused}
 use Rattle.refusal.specs.Rules.{judged}
 use Rattle.frame.specs.declared.Frame.{Frame}
 use Rattle.frame.specs.declared.Reading.{Reading}
 use Rattle.frame.specs.Layout.{first, second}
 use Rattle.frame.specs.Format.{readingOf}
+use Rattle.site.specs.Message.{message}
 use Rattle.site.specs.Reply.{Reply, sendsIf, lengthSent, buffer}
 use Rattle.leader.specs.declared.State.{State}
+use Rattle.leader.specs.declared.Marks.{Marks}
+use Rattle.leader.specs.declared.Heading.{Heading}
 use Rattle.leader.specs.declared.Outcome.{Outcome}
 use Rattle.leader.specs.Leader as leader
-use Rattle.leader.specs.Leader.{taken, marksOf, step, returned, output, mayOpen, inBallot, invitation, p2a, opening, openingReturned, openingOutput, outcome}
-use Rattle.leader.specs.Parts.{refused, isAccepted, reportedAfter, entered, drafted, pendingAfter, answerIn, settled}
+use Rattle.leader.specs.Leader.{P1B, taken, marksOf, pendingOf, reporting, reportIn, proposed, conclude, accepted, step, mayOpen, inBallot, invitation, opening}
+use Rattle.leader.specs.Parts.{listOf, stateOf, frameOf, headingOf, Done, isAccepted, answerIn, settled, sendsP2a}
 use Rattle.leader.specs.PartsLaws.{settled-step}
 
--- ---- a frame that is answered
+-- ---- the pending commands in place
 
--- a draft has at most 32 commands, so by value it is there whole
-drafted-short : (n : ℕ) (done : Bool) (mask : ℕ) (t u : Table) (p : List ℕ) → length (drafted n done mask t u p) ≤ limit
-drafted-short n true mask t u p = proposal-short n _ _ p
-drafted-short n false mask t u p = omega arith
+-- zeros after a list that fits pad it
+zeros : (n : ℕ) (l : List ℕ) → length l ≤ n → l ++ padded (n - length l) [] ≡ padded n l
+unfolding padded
+zeros n [] p = rw sub-zero
+zeros zero (c ∷ l) p = absurd (omega arith)
+zeros (suc n) (c ∷ l) p =
+    let less : suc n - suc (length l) ≡ n - length l = omega arith in
+    rw less (ap (λ (x : List ℕ). c ∷ x) (zeros n l (omega arith)))
 
--- and its count tells whether it is empty
-none-stored : (l : List ℕ) → length l ≤ limit → eqb (min (length l) limit) 0 ≡ eqb (length l) 0
-none-stored l p = let same : min (length l) limit ≡ length l = omega arith in ap (λ (k : ℕ). eqb k 0) same
+-- b are the words before, of which k are commands, w those after h was appended, of which n are commands, and y the zeros behind them
+module _ (b : List ℕ) (k : ℕ) (h : List ℕ) (n : ℕ) (w : List ℕ) (size : length b ≡ limit) (p : n ≡ length (appendedIn b k h)) (q : w ≡ appendedIn b k h ++ drop n b) where
+  pub few : n ≤ limit
+  few = rw (p, length-take, size) (omega arith)
 
--- the parts of the state after it: mask, t and u are the reports, d the draft, f its frame, v the view, p what is pending, n the length of the line
--- and l the buffer
-module _ (r : Roster) (own : ℕ) (s : State) (a : Answer) (m : Frame) (out : List ℕ) (b : Bool) (x : b ≡ isAccepted a) where
-  pub settle-done : (g h : List ℕ) (mask : ℕ) (t u : Table) (q : ℕ) (e : Bool) (d : History) (f : Frame) (v : View) (p : History) (n : ℕ) (l : List ℕ)
-      → g ≡ first m
-      → h ≡ second m
-      → mask ≡ reportedAfter (b && eqb (m .kind) 3) (s .reported) (m .sender)
-      → t ≡ entered (b && eqb (m .kind) 3) (s .proven) (m .sender) g
-      → u ≡ entered (b && eqb (m .kind) 3) (s .held) (m .sender) h
-      → q ≡ quorum r
-      → e ≡ reaches mask q
-      → d ≡ stored (drafted (r .n) ((b && eqb (m .kind) 3) && e) mask t u (commands (s .pending)))
-      → f ≡ p2a own (s .view) (s .ballot) (commands d)
-      → v ≡ cond (b && (not (eqb (m .kind) 3) && not (eqb (m .kind) 4))) (m .view) (s .view)
-      → p ≡ pendingAfter (b && (not (eqb (m .kind) 3) && eqb (m .kind) 4)) ((b && eqb (m .kind) 3) && e) (s .pending) g (commands d)
-      → (n ≡ lengthSent (sendsIf (not (eqb (d .count) 0)) f) out) × (l ≡ buffer (sendsIf (not (eqb (d .count) 0)) f) out)
-      → (record {
-        answer = a;
+  pub wide : length w ≡ limit
+  wide = let short = few in rw (q, length-append, ← p, length-drop, size) (omega arith)
+
+  pub lengthened : (y : List ℕ) → y ≡ padded (length (midOf n (length w - n) w)) [] → listOf n (putMid n (length w - n) w y) ≡ stored (appended (take k b) h)
+  lengthened y e =
+      let short = few in
+      let room = wide in
+      let all = appendedIn b k h in
+      let taken : length (midOf n (length w - n) w) ≡ length w - n = length-take-le _ (drop n w) (rw length-drop (omega arith)) in
+      let part : length (midOf n (length w - n) w) ≡ limit - length all = omega (arith, taken, room, p) in
+      let behind : drop (length w - n) (drop n w) ≡ [] = drop-of-length-le (drop n w) {i = length w - n} (rw length-drop (omega arith)) in
+      let words : putMid n (length w - n) w y ≡ padded limit all = rw (take-appended b k h n w p q, e, part, behind, append-nil (padded (limit - length all) [])) (zeros limit all (omega (arith, p, short))) in
+      let counted : n ≡ min (length all) limit = omega (arith, p, short) in
+      let whole : listOf n (putMid n (length w - n) w y) ≡ stored all = λ i. record { count = counted i; words = words i } in
+      whole ∙ ap (λ (j : ℕ). stored (take j (appended (take k b) h))) size ∙ stored-first (appended (take k b) h)
+
+-- d by value, copied over the words b
+pub shortened : (b l : List ℕ) (d : History) (w : List ℕ) → length b ≡ limit → d ≡ stored l → w ≡ padded (length b) (d .words) → listOf (d .count) w ≡ stored l
+shortened b l d w size e f =
+    let again : padded limit (padded limit l) ≡ padded limit l = rw (length-padded limit l) at (padded-whole (padded limit l)) in
+    let words : w ≡ padded limit l = f ∙ ap (λ (n : ℕ). padded n (d .words)) size ∙ ap (λ (x : History). padded limit (x .words)) e ∙ again in
+    λ i. record { count = e i .count; words = words i }
+
+-- ---- a P2A: m is the frame made, n the length of its line and l the buffer
+
+pub p2a-sent : (own : ℕ) (view : View) (ballot : Ballot) (h out : List ℕ) (m : Frame) (n : ℕ) (l : List ℕ) → length h ≤ limit
+    → m ≡ message 5 own view ballot (record { 0 = 0 }) 0 (take limit h) (take limit [])
+    → (n ≡ lengthSent (sendsIf (not (eqb (length h) 0)) m) out) × (l ≡ buffer (sendsIf (not (eqb (length h) 0)) m) out)
+    → (n ≡ lengthSent (sendsP2a own view ballot h) out) × (l ≡ buffer (sendsP2a own view ballot h) out)
+p2a-sent own view ballot h out m n l p e z = rw (e, take-all limit h p) at z
+
+-- ---- a report
+
+-- the state with the report: k is the marks after it, c and w the counts and words of the one table, d and x those of the other
+pub stored-report : (marks : Marks) (count : ℕ) (pending pcounts proven hcounts held : List ℕ) (f : Heading) (words : List ℕ) (k : Marks) (g h c w d x : List ℕ)
+    → length pcounts ≡ 16
+    → length proven ≡ 512
+    → length hcounts ≡ 16
+    → length held ≡ 512
+    → k ≡ record { view = marks .view; ballot = marks .ballot; classic = marks .classic; reported = withSite (marks .reported) (f .sender) }
+    → g ≡ first (frameOf f words)
+    → tableOf w c ≡ storedIn proven pcounts (f .sender) g
+    → h ≡ second (frameOf f words)
+    → tableOf x d ≡ storedIn held hcounts (f .sender) h
+    → stateOf k count pending c w d x ≡ reporting (stateOf marks count pending pcounts proven hcounts held) (frameOf f words)
+stored-report marks count pending pcounts proven hcounts held f words k g h c w d x l1 l2 l3 l4 ek eg et eh eu =
+    let t = et ∙ stored-in proven pcounts (f .sender) g (omega arith) (omega arith) in
+    let u = eu ∙ stored-in held hcounts (f .sender) h (omega arith) (omega arith) in
+    rw (ek, t, u, eg, eh)
+
+module _ (r : Roster) (own : ℕ) (s : State) (out : List ℕ) where
+  -- before report N-f
+  pub concludes-not : (q : ℕ) (b : Bool) → q ≡ quorum r → b ≡ reaches (s .reported) q → b ≡ false
+      → Done (conclude r own s) out (record { answer = Accepted; sent = 0; state = s }) out
+  unfolding conclude
+  concludes-not q b eq eb e = let few : reaches (s .reported) (quorum r) ≡ false = rw (← eq, ← eb) e in (rw few, rw few)
+
+  -- on it: the commands of the proposal d are there whole
+  proposed-whole : (p : List ℕ) (d : History) → p ≡ pendingOf s → d ≡ stored (proposal (r .n) (reportIn s (s .proven)) (reportIn s (s .held)) p)
+      → commands d ≡ proposed r s
+  unfolding proposed
+  proposed-whole p d ep ed =
+      rw (ed, ep) (commands-stored _ (proposal-short (r .n) (reportIn s (s .proven)) (reportIn s (s .held)) (pendingOf s)))
+
+  -- p is what is pending, d the proposal and h its commands, n the length of its line and l the buffer, e what stays pending
+  pub concludes : (q : ℕ) (b : Bool) → q ≡ quorum r → b ≡ reaches (s .reported) q → b ≡ true → (p : List ℕ) (d : History) (h : List ℕ) (n : ℕ) (l : List ℕ) (e : History)
+      → p ≡ pendingOf s
+      → d ≡ stored (proposal (r .n) (reportIn s (s .proven)) (reportIn s (s .held)) p)
+      → h ≡ commands d
+      → (n ≡ lengthSent (sendsP2a own (s .view) (s .ballot) h) out) × (l ≡ buffer (sendsP2a own (s .view) (s .ballot) h) out)
+      → e ≡ stored (remaining (pendingOf s) h)
+      → Done (conclude r own s) out
+      (record {
+        answer = Accepted;
         sent = n;
-        state = record { view = v; ballot = s .ballot; classic = s .classic; pending = p; reported = mask; proven = t; held = u };
-      }
-      ≡ outcome (settled r own s a m) out)
-      × (l ≡ buffer (settled r own s a m .sending) out)
+        state = record { view = s .view; ballot = s .ballot; classic = s .classic; pending = e; reported = s .reported; proven = s .proven; held = s .held };
+      }) l
+  unfolding conclude
+  concludes q b eq eb eb₁ p d h n l e ep ed eh en ee =
+      let all : reaches (s .reported) (quorum r) ≡ true = rw (← eq, ← eb) eb₁ in
+      let whole : h ≡ proposed r s = eh ∙ proposed-whole p d ep ed in
+      (rw (all, ← whole, en .0, ee), rw (all, ← whole) (en .1))
+
+-- ---- what an answer does
+
+module _ (r : Roster) (own : ℕ) (s : State) (m : Frame) (out : List ℕ) where
+  pub refuses : (a : Answer) → isAccepted a ≡ false → Done (settled r own s a m) out (record { answer = a; sent = 0; state = s }) out
   unfolding settled
-  settle-done g h mask t u q e d f v p n l eg eh em et eu eq ee ed ef ev ep en =
-      let draft = drafted (r .n) ((b && eqb (m .kind) 3) && e) mask t u (commands (s .pending)) in
-      let short = drafted-short (r .n) ((b && eqb (m .kind) 3) && e) mask t u (commands (s .pending)) in
-      let whole : commands d ≡ draft = ap commands ed ∙ commands-stored draft short in
-      let some : eqb (d .count) 0 ≡ eqb (length draft) 0 = ap (λ (k : History). eqb (k .count) 0) ed ∙ none-stored draft short in
-      (rw (en .0, ev, ep, some, ef, whole, ee, eq, et, eu, em, eg, eh, x), en .1 ∙ rw (some, ef, whole, ee, eq, et, eu, em, eg, eh, x))
+  refuses Accepted p = absurd (true≢false p)
+  refuses (Refused e) p = (refl, refl)
 
--- ---- a line: d is what reading it found, a the answer, o what is returned and l the buffer
+  pub reports : (a : Answer) → isAccepted a ≡ true → eqb (m .kind) 3 ≡ true → (o : Outcome) (l : List ℕ) → Done (accepted P1B r own s m) out o l
+      → Done (settled r own s a m) out o l
+  unfolding settled
+  reports Accepted p e o l d = rw e d
+  reports (Refused x) p e o l d = absurd (true≢false (sym p))
 
-pub stepped : (r : Roster) (own : ℕ) (s : State) (line out : List ℕ) (d : Reading) → d ≡ readingOf line taken → (a : Answer)
-    → a ≡ answerIn r own (length out) (marksOf s) (s .pending) (s .proven .words) (s .proven .counts) (s .held .words) (s .held .counts) (d .found) (d .frame)
-    → (o : Outcome) (l : List ℕ)
-    → (o ≡ outcome (settled r own s a (d .frame)) out) × (l ≡ buffer (settled r own s a (d .frame) .sending) out)
-    → (o ≡ returned r own s line out) × (l ≡ output r own s line out)
-stepped r own s line out d e a f o l p =
-    let same : settled r own s a (d .frame) ≡ step r own (length out) s line = rw (f, e) (settled-step r own (length out) s line) in
-    (p .0 ∙ ap (λ (x : Reply State). outcome x out) same, p .1 ∙ ap (λ (x : Reply State). buffer (x .sending) out) same)
+  pub requests : (a : Answer) → isAccepted a ≡ true → eqb (m .kind) 3 ≡ false → eqb (m .kind) 4 ≡ true → (h : List ℕ) (p : History) → h ≡ first m
+      → p ≡ stored (appended (pendingOf s) h)
+      → Done (settled r own s a m) out
+      (record {
+        answer = a;
+        sent = 0;
+        state = record { view = s .view; ballot = s .ballot; classic = s .classic; pending = p; reported = s .reported; proven = s .proven; held = s .held };
+      }) out
+  unfolding settled
+  requests Accepted x e f h p eh ep = (rw (e, f, ep, eh), rw (e, f))
+  requests (Refused _) x e f h p eh ep = absurd (true≢false (sym x))
 
--- ---- opening a ballot: by CONFIG, by STALE, and accepted, where m is the frame made, t the state, n the length of its line and l the buffer
+  pub elects : (a : Answer) → isAccepted a ≡ true → eqb (m .kind) 3 ≡ false → eqb (m .kind) 4 ≡ false → (k : Marks)
+      → k ≡ record { view = m .view; ballot = s .ballot; classic = s .classic; reported = s .reported }
+      → Done (settled r own s a m) out
+      (record {
+        answer = a;
+        sent = 0;
+        state = record { view = k .view; ballot = k .ballot; classic = k .classic; pending = s .pending; reported = k .reported; proven = s .proven; held = s .held };
+      }) out
+  unfolding settled
+  elects Accepted x e f k ek = (rw (e, f, ek), rw (e, f))
+  elects (Refused _) x e f k ek = absurd (true≢false (sym x))
+
+-- ---- a line: d is what reading it found, f the heading of its frame, a the answer, o what is returned and l the buffer
+
+pub steps : (r : Roster) (own : ℕ) (s : State) (line out : List ℕ) (d : Reading) (f : Heading) (a : Answer) (o : Outcome) (l : List ℕ) → d ≡ readingOf line taken
+    → f ≡ headingOf (d .frame)
+    → a ≡ answerIn r own (length out) s (d .found) (frameOf f (d .frame .words))
+    → Done (settled r own s a (frameOf f (d .frame .words))) out o l
+    → Done (step r own (length out) s line) out o l
+steps r own s line out d f a o l ed ef ea p =
+    let same : settled r own s a (frameOf f (d .frame .words)) ≡ step r own (length out) s line = rw (ea, ef, ed) (settled-step r own (length out) s line) in
+    subst (λ (x : Reply State). Done x out o l) same p
+
+-- ---- opening a ballot: by CONFIG, by STALE, and accepted, where m is the frame made, n the length of its line and l the buffer, and k the marks
 
 module _ (r : Roster) (own : ℕ) (s : State) (ballot : Ballot) (fast : ℕ) (out : List ℕ) where
-  pub opening-config : leader.config r own (length out) s ≡ true
-      → (refused s Config ≡ openingReturned r own s ballot fast out) × (out ≡ openingOutput r own s ballot fast out)
+  pub opens-unfit : leader.config r own (length out) s ≡ true
+      → Done (opening r own (length out) s ballot fast) out (record { answer = Refused Config; sent = 0; state = s }) out
   unfolding opening judged
-  opening-config p = (rw p, rw p)
+  opens-unfit p = (rw p, rw p)
 
   module _ (p : leader.config r own (length out) s ≡ false) where
-    pub opening-stale : mayOpen r own (marksOf s) ballot ≡ false
-        → (refused s Stale ≡ openingReturned r own s ballot fast out) × (out ≡ openingOutput r own s ballot fast out)
+    pub opens-stale : mayOpen r own (marksOf s) ballot ≡ false
+        → Done (opening r own (length out) s ballot fast) out (record { answer = Refused Stale; sent = 0; state = s }) out
     unfolding opening judged
-    opening-stale q = (rw (p, q), rw (p, q))
+    opens-stale q = (rw (p, q), rw (p, q))
 
-    pub opening-done : mayOpen r own (marksOf s) ballot ≡ true → (m : Frame) (t : State) (n : ℕ) (l : List ℕ) → m ≡ invitation own (s .view) ballot fast
+    pub opens : mayOpen r own (marksOf s) ballot ≡ true → (m : Frame) (t : State) (n : ℕ) (l : List ℕ) → m ≡ invitation own (s .view) ballot fast
         → t ≡ inBallot (s .view) ballot fast (s .pending)
         → (n ≡ lengthSent (sendsIf true m) out) × (l ≡ buffer (sendsIf true m) out)
-        → (record { answer = Accepted; sent = n; state = t } ≡ openingReturned r own s ballot fast out) × (l ≡ openingOutput r own s ballot fast out)
+        → Done (opening r own (length out) s ballot fast) out (record { answer = Accepted; sent = n; state = t }) l
     unfolding opening judged
-    opening-done q m t n l x y z = (rw (p, q, y, z .0, x), z .1 ∙ rw (p, q, x))
+    opens q m t n l x y z = (rw (p, q, y, z .0, x), z .1 ∙ rw (p, q, x))

@@ -1,31 +1,84 @@
--- How the code computes a step: the answer first, from the parts of the state that it lends, and then the state after it by parts.
-use mathlib.Core.Bool.{Bool, true, false, not, cond, _&&_}
+-- How the code computes a step: on the parts of a state, the answer first, and then what the answer does.
+use mathlib.Core.Path.{_≡_}
+use mathlib.Core.Bool.{Bool, true, false, not}
 use mathlib.Core.List.{List, [], _∷_}
 use Prim.Native.Nat.{ℕ, _≤_}
 use lib.Dec.{eqb}
 use lib.ListN.{length}
 use Rattle.roster.specs.declared.Roster.{Roster}
-use Rattle.roster.specs.Roster.{quorum}
-use Rattle.roster.specs.Mask.{reaches, withSite}
+use Rattle.roster.specs.declared.View.{View}
+use Rattle.roster.specs.declared.Ballot.{Ballot}
 use Rattle.history.specs.declared.History.{History}
-use Rattle.history.specs.Words.{limit, commands, stored}
-use Rattle.merge.specs.Merge.{appended}
-use Rattle.table.specs.declared.Table.{Table}
-use Rattle.table.specs.Table.{storedAt, tableOf}
-use Rattle.proposal.specs.Proposal.{report, proposal, remaining}
-use Rattle.refusal.specs.declared.Refusal.{Refusal}
+use Rattle.history.specs.Words.{limit}
+use Rattle.table.specs.Table.{tableOf}
 use Rattle.refusal.specs.declared.Refusal.the-variants.{Config, Form}
 use Rattle.refusal.specs.declared.Answer.{Answer}
 use Rattle.refusal.specs.declared.Answer.the-variants.{Accepted, Refused}
 use Rattle.refusal.specs.Rules.{Rule, _gives_, judged}
 use Rattle.frame.specs.declared.Frame.{Frame}
-use Rattle.frame.specs.Layout.{first, second}
-use Rattle.site.specs.Reply.{Reply, sendsIf}
+use Rattle.frame.specs.Layout.{first}
+use Rattle.site.specs.Reply.{Reply, Sending, refuse, sendsIf, buffer}
 use Rattle.leader.specs.declared.State.{State}
 use Rattle.leader.specs.declared.Marks.{Marks}
+use Rattle.leader.specs.declared.Settled.{Settled}
+use Rattle.leader.specs.declared.Heading.{Heading}
 use Rattle.leader.specs.declared.Outcome.{Outcome}
-use Rattle.leader.specs.Leader as leader
-use Rattle.leader.specs.Leader.{kindOf, frameRules, p2a}
+use Rattle.leader.specs.Leader.{kindOf, marksOf, pendingOf, config, frameRules, p2a, accepted, outcome}
+
+-- ---- a state of its parts
+
+-- the pending commands of their count and words, and the state of its marks, of these and of the counts and words of the two tables
+abbrev pub listOf : ℕ → List ℕ → History
+listOf count words = record { count = count; words = words }
+
+abbrev pub stateOf : Marks → ℕ → List ℕ → List ℕ → List ℕ → List ℕ → List ℕ → State
+stateOf k count pending provenCounts proven heldCounts held =
+    record {
+      view = k .view;
+      ballot = k .ballot;
+      classic = k .classic;
+      pending = listOf count pending;
+      reported = k .reported;
+      proven = tableOf proven provenCounts;
+      held = tableOf held heldCounts;
+    }
+
+-- the outcome of what a call in place returns and of the parts that it leaves
+abbrev pub outcomeOf : Settled → ℕ → List ℕ → List ℕ → List ℕ → List ℕ → List ℕ → Outcome
+outcomeOf o count pending provenCounts proven heldCounts held =
+    record { answer = o .answer; sent = o .sent; state = stateOf (o .marks) count pending provenCounts proven heldCounts held }
+
+-- a call with `out` lent to it does this: it ends with that outcome, and `left` is the buffer that it leaves
+abbrev pub Done : Reply State → List ℕ → Outcome → List ℕ → Type 0
+Done o out ended left = (ended ≡ outcome o out) × (left ≡ buffer (o .sending) out)
+
+-- a frame of its heading and its words
+abbrev pub frameOf : Heading → List ℕ → Frame
+frameOf f words =
+    record {
+      kind = f .kind;
+      sender = f .sender;
+      view = f .view;
+      ballot = f .ballot;
+      proven = f .proven;
+      mask = f .mask;
+      n = f .n;
+      m = f .m;
+      words = words;
+    }
+
+abbrev pub headingOf : Frame → Heading
+headingOf m =
+    record {
+      kind = m .kind;
+      sender = m .sender;
+      view = m .view;
+      ballot = m .ballot;
+      proven = m .proven;
+      mask = m .mask;
+      n = m .n;
+      m = m .m;
+    }
 
 -- ---- the answer
 
@@ -37,89 +90,26 @@ answer rules = judged Refused Accepted rules
 unfoldable pub answerTo : Roster → ℕ → Marks → List ℕ → Frame → Answer
 answerTo r own k pending m = answer (frameRules (kindOf (m .kind)) r own k pending m)
 
--- a state of its parts, and CONFIG of it
-abbrev pub stateOf : Marks → History → Table → Table → State
-stateOf k pending proven held =
-    record { view = k .view; ballot = k .ballot; classic = k .classic; pending = pending; reported = k .reported; proven = proven; held = held }
-
-abbrev pub configOf : Roster → ℕ → ℕ → Marks → History → List ℕ → List ℕ → List ℕ → List ℕ → Bool
-configOf r own room k pending provenWords provenCounts heldWords heldCounts = leader.config r own room (stateOf k pending (tableOf provenWords provenCounts) (tableOf heldWords heldCounts))
-
 -- the answer to a line of which this was read
-unfoldable pub answerIn : Roster → ℕ → ℕ → Marks → History → List ℕ → List ℕ → List ℕ → List ℕ → Bool → Frame → Answer
-answerIn r own room k pending provenWords provenCounts heldWords heldCounts found m =
-    judged Refused (answerTo r own k (commands pending) m)
-    (configOf r own room k pending provenWords provenCounts heldWords heldCounts gives Config ∷ not found gives Form ∷ [])
+unfoldable pub answerIn : Roster → ℕ → ℕ → State → Bool → Frame → Answer
+answerIn r own room s found m =
+    judged Refused (answerTo r own (marksOf s) (pendingOf s) m) (config r own room s gives Config ∷ not found gives Form ∷ [])
 
 -- no more than 32 commands in the lists that are appended to each other
 pub record Short (pending : List ℕ) (m : Frame) : Type 0 where
   pub short-pending : length pending ≤ limit
   pub short : length (first m) ≤ limit
 
--- ---- what an accepted frame is
+-- ---- what an answer does
 
 abbrev pub isAccepted : Answer → Bool
 isAccepted Accepted = true
 isAccepted (Refused e) = false
 
-abbrev pub isReport : Answer → ℕ → Bool
-isReport a kind = isAccepted a && eqb kind 3
-
-abbrev pub isRequest : Answer → ℕ → Bool
-isRequest a kind = isAccepted a && (not (eqb kind 3) && eqb kind 4)
-
-abbrev pub isElection : Answer → ℕ → Bool
-isElection a kind = isAccepted a && (not (eqb kind 3) && not (eqb kind 4))
-
--- ---- the parts of the state after it
-
--- the sites that reported, and a table with the history of a report
-abbrev pub reportedAfter : Bool → ℕ → ℕ → ℕ
-reportedAfter reports mask site = cond reports (withSite mask site) mask
-
-abbrev pub entered : Bool → Table → ℕ → List ℕ → Table
-entered reports t site h = cond reports (storedAt t site h) t
-
--- whether this is report N-f, and the proposal then
-abbrev pub isComplete : Roster → Bool → ℕ → Bool
-isComplete r reports mask = reports && reaches mask (quorum r)
-
-abbrev pub drafted : ℕ → Bool → ℕ → Table → Table → List ℕ → List ℕ
-drafted n complete mask proven held pending =
-    cond complete (proposal n (report (proven .words) (proven .counts) mask) (report (held .words) (held .counts) mask) pending) []
-
--- the pending commands
-abbrev pub pendingAfter : Bool → Bool → History → List ℕ → List ℕ → History
-pendingAfter requests complete pending h proposed =
-    cond requests (stored (appended (commands pending) h)) (cond complete (stored (remaining (commands pending) proposed)) pending)
-
--- what an answer to a frame does, of what the frame is
-abbrev pub settledBy : Roster → ℕ → State → Answer → Bool → Bool → Bool → Frame → Reply State
-settledBy r own s a reports requests elects m =
-    let mask = reportedAfter reports (s .reported) (m .sender) in
-    let proven = entered reports (s .proven) (m .sender) (first m) in
-    let held = entered reports (s .held) (m .sender) (second m) in
-    let done = isComplete r reports mask in
-    let proposed = drafted (r .n) done mask proven held (commands (s .pending)) in
-    record {
-      answer = a;
-      state = record {
-        view = cond elects (m .view) (s .view);
-        ballot = s .ballot;
-        classic = s .classic;
-        pending = pendingAfter requests done (s .pending) (first m) proposed;
-        reported = mask;
-        proven = proven;
-        held = held;
-      };
-      sending = sendsIf (not (eqb (length proposed) 0)) (p2a own (s .view) (s .ballot) proposed);
-    }
-
 unfoldable pub settled : Roster → ℕ → State → Answer → Frame → Reply State
-settled r own s a m = settledBy r own s a (isReport a (m .kind)) (isRequest a (m .kind)) (isElection a (m .kind)) m
+settled r own s Accepted m = accepted (kindOf (m .kind)) r own s m
+settled r own s (Refused e) m = refuse s e
 
--- ---- opening a ballot
-
--- a call that is refused
-abbrev pub refused : State → Refusal → Outcome
-refused s e = record { answer = Refused e; sent = 0; state = s }
+-- the P2A of a proposal that is not empty
+abbrev pub sendsP2a : ℕ → View → Ballot → List ℕ → Sending
+sendsP2a own view ballot h = sendsIf (not (eqb (length h) 0)) (p2a own view ballot h)

@@ -1,12 +1,16 @@
 // The leader: it collects commands, opens ballots, and proposes a history of the reports that a quorum of sites sends it.
 ghost use mathlib.Core.Bool.{cond};
+ghost use mathlib.Core.List.{[]};
 ghost use mathlib.Core.Path.{_≡_};
 ghost use Prim.Native.Nat.{_≤_};
 ghost use lib.Dec.{ltb};
 ghost use lib.ListN.{length, take, drop};
-ghost use Rattle.history.specs.Words.{limit, stored, commands};
+ghost use Rattle.history.specs.Words.{limit, stored};
 ghost use Rattle.merge.specs.Merge.{appended};
-ghost use Rattle.site.specs.Reply.{buffer};
+ghost use Rattle.proposal.specs.Proposal.{remaining};
+ghost use Rattle.roster.specs.Mask.{withSite};
+ghost use Rattle.site.specs.Reply.{buffer, lengthSent};
+ghost use Rattle.site.specs.Site.{isSet};
 ghost use Rattle.leader.specs.Leader as spec;
 ghost use Rattle.leader.specs.Parts as parts;
 use frame::Frame;
@@ -42,12 +46,31 @@ pub struct Outcome {
     pub state: State,
 }
 
-// What the checks after CONFIG read of a state beside its pending commands.
-struct Marks {
+// A state's numbers, all but its lists and their counts; a call in place takes them by value.
+pub struct Marks {
+    pub view: View,
+    pub ballot: Ballot,
+    pub classic: u8,
+    pub reported: u16,
+}
+
+// What a call in place gives: the answer, how many bytes of the buffer are to be sent, and the marks after it.
+pub struct Settled {
+    pub answer: Answer,
+    pub sent: usize,
+    pub marks: Marks,
+}
+
+// A frame but for its commands.
+struct Heading {
+    kind: u8,
+    sender: u8,
     view: View,
     ballot: Ballot,
-    classic: u8,
-    reported: u16,
+    proven: Ballot,
+    mask: u16,
+    n: u8,
+    m: u8,
 }
 
 // The kinds of frames taken and sent, but for LEADER, which is what is left of those taken.
@@ -65,16 +88,15 @@ const P2A: u8 = 5;
 const TAKEN: u16 = 1048;
 
 // Whether pending commands may be lent: at most 32, valid, no proposer and serial twice. Their order is free.
-fn pending_valid(p: History) -> bool
-    ensures { λ b. ⌜ b ≡ spec.validPending p ⌝ }
+fn pending_valid(count: u8, words: &[u64]) -> bool
+    ensures { λ b. ⌜ b ≡ spec.validPending (parts.listOf count (now (words .entry))) ⌝ }
 {
-    let n = p.count as usize;
+    let n = count as usize;
     let fits = n <= History::LIMIT;
     if !fits {
         return false;
     }
-    let all: &[u64] = &p.words;
-    let h = history::first(all, n);
+    let h = history::first(words, n);
     command::all_valid(h) & !history::repeated(h)
 }
 
@@ -84,16 +106,17 @@ fn config<'a>(
     own: u8,
     room: usize,
     marks: Marks,
-    pending: History,
-    proven: &'a [u64],
+    count: u8,
+    pending: &'a [u64],
     pcounts: &'a [u8],
-    held: &'a [u64],
+    proven: &'a [u64],
     hcounts: &'a [u8],
+    held: &'a [u64],
 ) -> bool
-    ensures { λ b. ⌜ b ≡ parts.configOf r own room marks pending (now (proven .entry)) (now (pcounts .entry)) (now (held .entry)) (now (hcounts .entry)) ⌝ }
+    ensures { λ b. ⌜ b ≡ spec.config r own room (parts.stateOf marks count (now (pending .entry)) (now (pcounts .entry)) (now (proven .entry)) (now (hcounts .entry)) (now (held .entry))) ⌝ }
 {
     !(site::seated(r, own, room)
-        & (pending_valid(pending)
+        & (pending_valid(count, pending)
             & (!roster::beyond(marks.reported, r.n)
                 & (table::rows_valid(proven, pcounts, r.n)
                     & table::rows_valid(held, hcounts, r.n)))))
@@ -115,18 +138,18 @@ fn leads(r: Roster, own: u8, marks: Marks, view: View) -> bool
 }
 
 // The answer to a LEADER.
-fn on_leader(r: Roster, own: u8, marks: Marks, m: Frame) -> Answer
-    ensures { λ a. ⌜ a ≡ parts.answer (spec.leaderRules r own marks m) ⌝ }
+fn on_leader(r: Roster, own: u8, marks: Marks, f: Heading) -> Answer
+    ensures { λ a. ⌜ a ≡ parts.answer (spec.leaderRules r own marks (parts.frameOf f [])) ⌝ }
 {
-    let unknown = r.n <= m.sender;
+    let unknown = r.n <= f.sender;
     if unknown {
         return Answer::Refused(Refusal::Sender);
     }
-    let ours = leads(r, own, marks, m.view);
+    let ours = leads(r, own, marks, f.view);
     if !ours {
         return Answer::Refused(Refusal::Stale);
     }
-    let weak = unproven(r, m.mask);
+    let weak = unproven(r, f.mask);
     if weak {
         return Answer::Refused(Refusal::Proof);
     }
@@ -146,17 +169,16 @@ fn overflows(p: &[u64], h: &[u64]) -> bool
 }
 
 // The answer to a PROPOSE: sender, commands and requests, and then what is pending.
-fn on_propose(pending: &[u64], m: Frame) -> Answer
-    requires { ⌜ parts.Short (now pending) m ⌝ }
-    ensures { λ a. ⌜ a ≡ parts.answer (spec.proposeRules (now (pending .entry)) m) ⌝ }
+fn on_propose<'a>(pending: &'a [u64], f: Heading, words: &'a [u64]) -> Answer
+    requires { ⌜ parts.Short (now pending) (parts.frameOf f (now words)) ⌝ }
+    ensures { λ a. ⌜ a ≡ parts.answer (spec.proposeRules (now (pending .entry)) (parts.frameOf f (now (words .entry)))) ⌝ }
 {
-    let nobody = m.sender == 0;
+    let nobody = f.sender == 0;
     if nobody {
         return Answer::Refused(Refusal::Sender);
     }
-    let all: &[u64] = &m.words;
-    let h = history::first(all, m.n as usize);
-    let wrong = !command::all_valid(h) | !command::all_by(m.sender, h);
+    let h = history::first(words, f.n as usize);
+    let wrong = !command::all_valid(h) | !command::all_by(f.sender, h);
     if wrong {
         return Answer::Refused(Refusal::Command);
     }
@@ -224,26 +246,25 @@ fn after<'a>(words: &'a [u64], n: usize, m: usize) -> &'a [u64]
 }
 
 // The answer to a P1B: sender, ballot and proof, and then the two histories.
-fn on_report(r: Roster, marks: Marks, m: Frame) -> Answer
-    ensures { λ a. ⌜ a ≡ parts.answer (spec.reportRules r marks m) ⌝ }
+fn on_report(r: Roster, marks: Marks, f: Heading, words: &[u64]) -> Answer
+    ensures { λ a. ⌜ a ≡ parts.answer (spec.reportRules r marks (parts.frameOf f (now (words .entry)))) ⌝ }
 {
-    let unknown = r.n <= m.sender;
+    let unknown = r.n <= f.sender;
     if unknown {
         return Answer::Refused(Refusal::Sender);
     }
-    let due = awaited(r, marks, m.ballot, m.sender);
+    let due = awaited(r, marks, f.ballot, f.sender);
     if !due {
         return Answer::Refused(Refusal::Stale);
     }
-    let weak = unfounded(r, m.n, m.proven, m.mask);
+    let weak = unfounded(r, f.n, f.proven, f.mask);
     if weak {
         return Answer::Refused(Refusal::Proof);
     }
-    let all: &[u64] = &m.words;
-    let n = m.n as usize;
-    let k = m.m as usize;
-    let g = history::first(all, n);
-    let h = after(all, n, k);
+    let n = f.n as usize;
+    let k = f.m as usize;
+    let g = history::first(words, n);
+    let h = after(words, n, k);
     let wrong = !command::all_valid(g) | !command::all_valid(h);
     if wrong {
         return Answer::Refused(Refusal::Command);
@@ -256,19 +277,26 @@ fn on_report(r: Roster, marks: Marks, m: Frame) -> Answer
 }
 
 // The answer to a frame, by its kind.
-fn judge(r: Roster, own: u8, marks: Marks, pending: &[u64], m: Frame) -> Answer
-    requires { ⌜ parts.Short (now pending) m ⌝ }
-    ensures { λ a. ⌜ a ≡ parts.answerTo r own marks (now (pending .entry)) m ⌝ }
+fn judge<'a>(
+    r: Roster,
+    own: u8,
+    marks: Marks,
+    pending: &'a [u64],
+    f: Heading,
+    words: &'a [u64],
+) -> Answer
+    requires { ⌜ parts.Short (now pending) (parts.frameOf f (now words)) ⌝ }
+    ensures { λ a. ⌜ a ≡ parts.answerTo r own marks (now (pending .entry)) (parts.frameOf f (now (words .entry))) ⌝ }
 {
-    let report = m.kind == P1B;
+    let report = f.kind == P1B;
     if report {
-        return on_report(r, marks, m);
+        return on_report(r, marks, f, words);
     }
-    let request = m.kind == PROPOSE;
+    let request = f.kind == PROPOSE;
     if request {
-        return on_propose(pending, m);
+        return on_propose(pending, f, words);
     }
-    on_leader(r, own, marks, m)
+    on_leader(r, own, marks, f)
 }
 
 // The answer to a line of which this frame was read, if one was found.
@@ -277,32 +305,39 @@ fn check<'a>(
     own: u8,
     room: usize,
     marks: Marks,
-    pending: History,
-    proven: &'a [u64],
+    count: u8,
+    pending: &'a [u64],
     pcounts: &'a [u8],
-    held: &'a [u64],
+    proven: &'a [u64],
     hcounts: &'a [u8],
+    held: &'a [u64],
     found: bool,
-    m: Frame,
+    f: Heading,
+    words: &'a [u64],
 ) -> Answer
-    requires { ⌜ m .n ≤ 32 ⌝ }
-    ensures { λ a. ⌜ a ≡ parts.answerIn r own room marks pending (now (proven .entry)) (now (pcounts .entry)) (now (held .entry)) (now (hcounts .entry)) found m ⌝ }
+    requires { ⌜ (length (now pending) ≤ 32) × (f .n ≤ 32) ⌝ }
+    ensures { λ a. ⌜ a ≡ parts.answerIn r own room (parts.stateOf marks count (now (pending .entry)) (now (pcounts .entry)) (now (proven .entry)) (now (hcounts .entry)) (now (held .entry))) found (parts.frameOf f (now (words .entry))) ⌝ }
 {
-    let unfit = config(r, own, room, marks, pending, proven, pcounts, held, hcounts);
+    let unfit = config(
+        r,
+        own,
+        room,
+        marks,
+        count,
+        pending,
+        pcounts,
+        proven,
+        hcounts,
+        held,
+    );
     if unfit {
         return Answer::Refused(Refusal::Config);
     }
     if !found {
         return Answer::Refused(Refusal::Form);
     }
-    let all: &[u64] = &pending.words;
-    judge(
-        r,
-        own,
-        marks,
-        history::first(all, pending.count as usize),
-        m,
-    )
+    let p = history::first(pending, count as usize);
+    judge(r, own, marks, p, f, words)
 }
 
 // Whether an answer accepts.
@@ -315,199 +350,281 @@ fn accepts(a: Answer) -> bool
     }
 }
 
-// The sites that reported, with this one if it reports.
-fn reported_after(reports: bool, mask: u16, site: u8) -> u16
-    ensures { λ k. ⌜ k ≡ parts.reportedAfter reports mask site ⌝ }
+// Appends to the pending commands those of h that are not there yet, up to 32, and leaves zeros after them.
+fn lengthen(count: &mut u8, pending: &mut [u64], h: &[u64])
+    requires { ⌜ length (now pending) ≡ 32 ⌝ }
+    ensures { λ u. ⌜ parts.listOf (now (count .exit)) (now (pending .exit)) ≡ stored (appended (take (now (count .entry)) (now (pending .entry))) (now (h .entry))) ⌝ }
 {
-    if reports {
-        return roster::with_site(mask, site);
-    }
-    mask
-}
-
-// The table with a site's history, if it reports.
-fn entered(reports: bool, t: Table, site: u8, h: &[u64]) -> Table
-    ensures { λ u. ⌜ u ≡ parts.entered reports t site (now (h .entry)) ⌝ }
-{
-    if reports {
-        return t.stored(site as usize, h);
-    }
-    t
-}
-
-// The proposal, if the reports are complete; else none.
-fn draft(
-    complete: bool,
-    n: u8,
-    reported: u16,
-    proven: Table,
-    held: Table,
-    pending: History,
-) -> History
-    ensures { λ h. ⌜ h ≡ stored (parts.drafted n complete reported proven held (commands pending)) ⌝ }
-{
-    if complete {
-        let proven_words: &[u64] = &proven.words;
-        let proven_counts: &[u8] = &proven.counts;
-        let held_words: &[u64] = &held.words;
-        let held_counts: &[u8] = &held.counts;
-        let all: &[u64] = &pending.words;
-        let p = history::first(all, pending.count as usize);
-        return proposal::propose(
-            proven_words,
-            proven_counts,
-            held_words,
-            held_counts,
-            reported,
-            n,
-            p,
-        );
-    }
+    let present = *count;
+    let n = merge::append(pending, present as usize, h);
     let none: [u64; 0] = [];
-    History::of(&none)
+    history::fill(&mut pending[n..], &none);
+    *count = n as u8;
 }
 
-// The pending commands with those of h appended that are not there yet, the first 32.
-fn lengthened(pending: &[u64], h: &[u64]) -> History
-    requires { ⌜ length (now pending) ≤ 32 ⌝ }
-    ensures { λ k. ⌜ k ≡ stored (appended (now (pending .entry)) (now (h .entry))) ⌝ }
+// Keeps of the pending commands those that h does not hold, and leaves zeros after them.
+fn shorten(count: &mut u8, pending: &mut [u64], h: &[u64])
+    requires { ⌜ length (now pending) ≡ 32 ⌝ }
+    ensures { λ u. ⌜ parts.listOf (now (count .exit)) (now (pending .exit)) ≡ stored (remaining (take (now (count .entry)) (now (pending .entry))) (now (h .entry))) ⌝ }
 {
-    let mut work = [0u64; 32];
-    history::fill(&mut work, pending);
-    let m = pending.len();
-    let n = merge::append(&mut work, m, h);
-    History::of(&work[..n])
+    let present = *count;
+    let all: &[u64] = pending;
+    let rest = proposal::remaining(history::first(all, present as usize), h);
+    let words: &[u64] = &rest.words;
+    history::fill(pending, words);
+    *count = rest.count;
 }
 
-// The pending commands after a frame: with the commands that it requests, or without those of a proposal.
-fn pending_after(
-    requests: bool,
-    complete: bool,
-    pending: History,
-    h: &[u64],
-    proposed: History,
-) -> History
-    ensures { λ k. ⌜ k ≡ parts.pendingAfter requests complete pending (now (h .entry)) (commands proposed) ⌝ }
+// Writes the P2A of a proposal, if it is not empty, and answers the length of its line.
+fn send_p2a(own: u8, view: View, ballot: Ballot, h: &[u64], out: &mut [u8]) -> usize
+    requires { ⌜ length (now h) ≤ 32 ⌝ }
+    ensures { λ k. ⌜ (k ≡ lengthSent (parts.sendsP2a own view ballot (now (h .entry))) (now (out .entry))) × (now (out .exit) ≡ buffer (parts.sendsP2a own view ballot (now (h .entry))) (now (out .entry))) ⌝ }
 {
-    let all: &[u64] = &pending.words;
-    let p = history::first(all, pending.count as usize);
-    if requests {
-        return lengthened(p, h);
-    }
-    if complete {
-        let result: &[u64] = &proposed.words;
-        return proposal::remaining(p, history::first(result, proposed.count as usize));
-    }
-    pending
-}
-
-// The view after a frame: the one that it elects this site to lead, if it does.
-fn view_after(elects: bool, elected: View, present: View) -> View
-    ensures { λ v. ⌜ v ≡ cond elects elected present ⌝ }
-{
-    if elects { elected } else { present }
-}
-
-// The P2A of a proposal.
-fn p2a(own: u8, view: View, ballot: Ballot, proposed: History) -> Frame
-    ensures { λ m. ⌜ m ≡ spec.p2a own view ballot (commands proposed) ⌝ }
-{
-    let all: &[u64] = &proposed.words;
-    let h = history::first(all, proposed.count as usize);
     let none: [u64; 0] = [];
-    site::message(P2A, own, view, ballot, Ballot(0), 0, h, &none)
+    let m = site::message(P2A, own, view, ballot, Ballot(0), 0, h, &none);
+    site::hand_over(!(h.len() == 0), m, out)
 }
 
-// What an answer to a frame does: how much of the buffer is to be sent, and the state after it.
-fn settle(r: Roster, own: u8, s: State, answer: Answer, m: Frame, out: &mut [u8]) -> Outcome
-    ensures { λ o. ⌜ (o ≡ spec.outcome (parts.settled r own s answer m) (now (out .entry))) × (now (out .exit) ≡ buffer (parts.settled r own s answer m .sending) (now (out .entry))) ⌝ }
+// On report N-f, proposes a history of the reports and of what is pending, and keeps pending what it does not hold. Before that, nothing.
+fn conclude<'a>(
+    r: Roster,
+    own: u8,
+    marks: Marks,
+    count: &mut u8,
+    pending: &mut [u64; 32],
+    pcounts: &'a [u8],
+    proven: &'a [u64],
+    hcounts: &'a [u8],
+    held: &'a [u64],
+    out: &mut [u8],
+) -> Settled
+    ensures { λ o. ⌜ parts.Done (spec.conclude r own (parts.stateOf marks (now (count .entry)) (now (pending .entry)) (now (pcounts .entry)) (now (proven .entry)) (now (hcounts .entry)) (now (held .entry)))) (now (out .entry)) (parts.outcomeOf o (now (count .exit)) (now (pending .exit)) (now (pcounts .entry)) (now (proven .entry)) (now (hcounts .entry)) (now (held .entry))) (now (out .exit)) ⌝ }
 {
-    let view = s.view;
-    let ballot = s.ballot;
-    let accepted = accepts(answer);
-    let reports = accepted & (m.kind == P1B);
-    let requests = accepted & (!(m.kind == P1B) & (m.kind == PROPOSE));
-    let elects = accepted & (!(m.kind == P1B) & !(m.kind == PROPOSE));
-    let all: &[u64] = &m.words;
-    let n = m.n as usize;
-    let k = m.m as usize;
-    let g = history::first(all, n);
-    let h = after(all, n, k);
-    let reported = reported_after(reports, s.reported, m.sender);
-    let proven = entered(reports, s.proven, m.sender, g);
-    let held = entered(reports, s.held, m.sender, h);
-    let complete = reports & roster::reaches(reported, r.quorum());
-    let proposed = draft(complete, r.n, reported, proven, held, s.pending);
-    let sent = site::hand_over(
-        !(proposed.count == 0),
-        p2a(own, view, ballot, proposed),
-        out,
-    );
-    Outcome {
-        answer,
+    let complete = roster::reaches(marks.reported, r.quorum());
+    if !complete {
+        return Settled {
+            answer: Answer::Accepted,
+            sent: 0,
+            marks,
+        };
+    }
+    let present = *count;
+    let all: &[u64] = pending;
+    let p = history::first(all, present as usize);
+    let proposed = proposal::propose(proven, pcounts, held, hcounts, marks.reported, r.n, p);
+    let words: &[u64] = &proposed.words;
+    let h = history::first(words, proposed.count as usize);
+    let sent = send_p2a(own, marks.view, marks.ballot, h, out);
+    shorten(count, pending, h);
+    Settled {
+        answer: Answer::Accepted,
         sent,
-        state: State {
-            view: view_after(elects, m.view, view),
-            ballot,
-            classic: s.classic,
-            pending: pending_after(requests, complete, s.pending, g, proposed),
-            reported,
-            proven,
-            held,
-        },
+        marks,
     }
 }
 
-// The marks of a state with these values.
-fn note(view: View, ballot: Ballot, classic: u8, reported: u16) -> Marks
-    ensures { λ k. ⌜ k ≡ record { view = view; ballot = ballot; classic = classic; reported = reported } ⌝ }
+// The marks with one more site that reported.
+fn reporting(marks: Marks, site: u8) -> Marks
+    ensures { λ k. ⌜ k ≡ record { view = marks .view; ballot = marks .ballot; classic = marks .classic; reported = withSite (marks .reported) site } ⌝ }
 {
+    let view = marks.view;
+    let ballot = marks.ballot;
     Marks {
         view,
         ballot,
-        classic,
-        reported,
+        classic: marks.classic,
+        reported: roster::with_site(marks.reported, site),
     }
 }
 
-// One step: the answer to a line, how much of the buffer is to be sent, and the state after it. Any line is answered, in any state.
-pub fn step(r: Roster, own: u8, s: State, line: &[u8], out: &mut [u8]) -> Outcome
-    ensures { λ o. ⌜ (o ≡ spec.returned r own s (now (line .entry)) (now (out .entry))) × (now (out .exit) ≡ spec.output r own s (now (line .entry)) (now (out .entry))) ⌝ }
+// The marks in another view.
+fn in_view(marks: Marks, view: View) -> Marks
+    ensures { λ k. ⌜ k ≡ record { view = view; ballot = marks .ballot; classic = marks .classic; reported = marks .reported } ⌝ }
+{
+    let ballot = marks.ballot;
+    Marks {
+        view,
+        ballot,
+        classic: marks.classic,
+        reported: marks.reported,
+    }
+}
+
+// Takes a report: stores its proven history g and its held history h, and proposes if it is report N-f.
+fn collect<'a>(
+    r: Roster,
+    own: u8,
+    marks: Marks,
+    f: Heading,
+    words: &[u64],
+    count: &mut u8,
+    pending: &mut [u64; 32],
+    pcounts: &mut [u8; 16],
+    proven: &mut [u64; 512],
+    hcounts: &mut [u8; 16],
+    held: &mut [u64; 512],
+    out: &mut [u8],
+) -> Settled
+    ensures { λ o. ⌜ parts.Done (spec.accepted spec.P1B r own (parts.stateOf marks (now (count .entry)) (now (pending .entry)) (now (pcounts .entry)) (now (proven .entry)) (now (hcounts .entry)) (now (held .entry))) (parts.frameOf f (now (words .entry)))) (now (out .entry)) (parts.outcomeOf o (now (count .exit)) (now (pending .exit)) (now (pcounts .exit)) (now (proven .exit)) (now (hcounts .exit)) (now (held .exit))) (now (out .exit)) ⌝ }
+{
+    let n = f.n as usize;
+    let k = f.m as usize;
+    let site = f.sender as usize;
+    table::store(proven, pcounts, site, history::first(words, n));
+    table::store(held, hcounts, site, after(words, n, k));
+    let now = reporting(marks, f.sender);
+    conclude(
+        r,
+        own,
+        now,
+        count,
+        pending,
+        pcounts,
+        proven,
+        hcounts,
+        held,
+        out,
+    )
+}
+
+// Does what an answer to a frame says: a refused one touches nothing.
+fn settle(
+    r: Roster,
+    own: u8,
+    marks: Marks,
+    answer: Answer,
+    f: Heading,
+    words: &[u64],
+    count: &mut u8,
+    pending: &mut [u64; 32],
+    pcounts: &mut [u8; 16],
+    proven: &mut [u64; 512],
+    hcounts: &mut [u8; 16],
+    held: &mut [u64; 512],
+    out: &mut [u8],
+) -> Settled
+    ensures { λ o. ⌜ parts.Done (parts.settled r own (parts.stateOf marks (now (count .entry)) (now (pending .entry)) (now (pcounts .entry)) (now (proven .entry)) (now (hcounts .entry)) (now (held .entry))) answer (parts.frameOf f (now (words .entry)))) (now (out .entry)) (parts.outcomeOf o (now (count .exit)) (now (pending .exit)) (now (pcounts .exit)) (now (proven .exit)) (now (hcounts .exit)) (now (held .exit))) (now (out .exit)) ⌝ }
+{
+    let accepted = accepts(answer);
+    if !accepted {
+        return Settled {
+            answer,
+            sent: 0,
+            marks,
+        };
+    }
+    let report = f.kind == P1B;
+    if report {
+        return collect(
+            r,
+            own,
+            marks,
+            f,
+            words,
+            count,
+            pending,
+            pcounts,
+            proven,
+            hcounts,
+            held,
+            out,
+        );
+    }
+    let request = f.kind == PROPOSE;
+    if request {
+        lengthen(count, pending, history::first(words, f.n as usize));
+        return Settled {
+            answer,
+            sent: 0,
+            marks,
+        };
+    }
+    let now = in_view(marks, f.view);
+    Settled {
+        answer,
+        sent: 0,
+        marks: now,
+    }
+}
+
+impl Heading {
+    // A frame's heading.
+    fn of(m: Frame) -> Heading
+        ensures { λ f. ⌜ f ≡ parts.headingOf m ⌝ }
+    {
+        let view = m.view;
+        let ballot = m.ballot;
+        let proven = m.proven;
+        Heading {
+            kind: m.kind,
+            sender: m.sender,
+            view,
+            ballot,
+            proven,
+            mask: m.mask,
+            n: m.n,
+            m: m.m,
+        }
+    }
+}
+
+// One step in place, on the parts of a leader's state: the answer to a line, how much of the buffer is to be sent, and the marks after it. Any line is
+// answered, whatever the parts hold.
+pub fn step_in_place(
+    r: Roster,
+    own: u8,
+    marks: Marks,
+    count: &mut u8,
+    pending: &mut [u64; 32],
+    pcounts: &mut [u8; 16],
+    proven: &mut [u64; 512],
+    hcounts: &mut [u8; 16],
+    held: &mut [u64; 512],
+    line: &[u8],
+    out: &mut [u8],
+) -> Settled
+    ensures { λ o. ⌜ parts.Done (spec.step r own (length (now (out .entry))) (parts.stateOf marks (now (count .entry)) (now (pending .entry)) (now (pcounts .entry)) (now (proven .entry)) (now (hcounts .entry)) (now (held .entry))) (now (line .entry))) (now (out .entry)) (parts.outcomeOf o (now (count .exit)) (now (pending .exit)) (now (pcounts .exit)) (now (proven .exit)) (now (hcounts .exit)) (now (held .exit))) (now (out .exit)) ⌝ }
 {
     let reading = frame::read(line, TAKEN);
-    let found = reading.found;
     let m = reading.frame;
-    let marks = note(s.view, s.ballot, s.classic, s.reported);
-    let proven_words: &[u64] = &s.proven.words;
-    let proven_counts: &[u8] = &s.proven.counts;
-    let held_words: &[u64] = &s.held.words;
-    let held_counts: &[u8] = &s.held.counts;
+    let f = Heading::of(m);
+    let words: &[u64] = &m.words;
     let room = out.len();
+    let pending_words: &[u64] = pending;
+    let proven_lens: &[u8] = pcounts;
+    let proven_words: &[u64] = proven;
+    let held_lens: &[u8] = hcounts;
+    let held_words: &[u64] = held;
     let answer = check(
         r,
         own,
         room,
         marks,
-        s.pending,
+        *count,
+        pending_words,
+        proven_lens,
         proven_words,
-        proven_counts,
+        held_lens,
         held_words,
-        held_counts,
-        found,
-        m,
+        reading.found,
+        f,
+        words,
     );
-    settle(r, own, s, answer, m, out)
-}
-
-// A call that is refused: nothing is sent, and the state stays.
-fn refuse(s: State, e: Refusal) -> Outcome
-    ensures { λ o. ⌜ o ≡ parts.refused s e ⌝ }
-{
-    Outcome {
-        answer: Answer::Refused(e),
-        sent: 0,
-        state: s,
-    }
+    settle(
+        r,
+        own,
+        marks,
+        answer,
+        f,
+        words,
+        count,
+        pending,
+        pcounts,
+        proven,
+        hcounts,
+        held,
+        out,
+    )
 }
 
 // Whether this site may open a ballot: one above its last, in a view that it leads.
@@ -534,22 +651,110 @@ fn invitation(own: u8, view: View, ballot: Ballot, fast: u8) -> Frame
     site::message(kind, own, view, ballot, Ballot(0), 0, &none, &none)
 }
 
-// The state in a ballot that was just opened.
-fn in_ballot(view: View, ballot: Ballot, fast: u8, pending: History) -> State
-    ensures { λ s. ⌜ s ≡ spec.inBallot view ballot fast pending ⌝ }
+// The marks in a ballot that was just opened.
+fn opened(view: View, ballot: Ballot, fast: u8) -> Marks
+    ensures { λ k. ⌜ k ≡ record { view = view; ballot = ballot; classic = cond (isSet fast) 0 1; reported = 0 } ⌝ }
 {
-    State {
+    Marks {
         view,
         ballot,
         classic: pick(!(fast == 0), 0, 1),
-        pending,
         reported: 0,
-        proven: Table::empty(),
-        held: Table::empty(),
     }
 }
 
-// Opens a ballot, classic where `fast` is 0: P1A or FAST goes out, and the reports are forgotten. Any ballot is answered, in any state.
+// Opens a ballot in place, classic where `fast` is 0: P1A or FAST goes out, and the reports are forgotten. Any ballot is answered, whatever the
+// parts hold.
+pub fn open_in_place(
+    r: Roster,
+    own: u8,
+    marks: Marks,
+    count: &mut u8,
+    pending: &mut [u64; 32],
+    pcounts: &mut [u8; 16],
+    proven: &mut [u64; 512],
+    hcounts: &mut [u8; 16],
+    held: &mut [u64; 512],
+    ballot: Ballot,
+    fast: u8,
+    out: &mut [u8],
+) -> Settled
+    ensures { λ o. ⌜ parts.Done (spec.opening r own (length (now (out .entry))) (parts.stateOf marks (now (count .entry)) (now (pending .entry)) (now (pcounts .entry)) (now (proven .entry)) (now (hcounts .entry)) (now (held .entry))) ballot fast) (now (out .entry)) (parts.outcomeOf o (now (count .exit)) (now (pending .exit)) (now (pcounts .exit)) (now (proven .exit)) (now (hcounts .exit)) (now (held .exit))) (now (out .exit)) ⌝ }
+{
+    let room = out.len();
+    let pending_words: &[u64] = pending;
+    let proven_lens: &[u8] = pcounts;
+    let proven_words: &[u64] = proven;
+    let held_lens: &[u8] = hcounts;
+    let held_words: &[u64] = held;
+    let unfit = config(
+        r,
+        own,
+        room,
+        marks,
+        *count,
+        pending_words,
+        proven_lens,
+        proven_words,
+        held_lens,
+        held_words,
+    );
+    if unfit {
+        return Settled {
+            answer: Answer::Refused(Refusal::Config),
+            sent: 0,
+            marks,
+        };
+    }
+    let may = may_open(r, own, marks, ballot);
+    if !may {
+        return Settled {
+            answer: Answer::Refused(Refusal::Stale),
+            sent: 0,
+            marks,
+        };
+    }
+    let sent = site::hand_over(true, invitation(own, marks.view, ballot, fast), out);
+    *pcounts = [0u8; 16];
+    *proven = [0u64; 512];
+    *hcounts = [0u8; 16];
+    *held = [0u64; 512];
+    let now = opened(marks.view, ballot, fast);
+    Settled {
+        answer: Answer::Accepted,
+        sent,
+        marks: now,
+    }
+}
+
+// One step by value: the answer to a line, how much of the buffer is to be sent, and the state after it. Any line is answered, in any state.
+pub fn step(r: Roster, own: u8, s: State, line: &[u8], out: &mut [u8]) -> Outcome
+    ensures { λ o. ⌜ (o ≡ spec.returned r own s (now (line .entry)) (now (out .entry))) × (now (out .exit) ≡ spec.output r own s (now (line .entry)) (now (out .entry))) ⌝ }
+{
+    let marks = s.marks();
+    let mut count = s.pending.count;
+    let mut pending = s.pending.words;
+    let mut pcounts = s.proven.counts;
+    let mut proven = s.proven.words;
+    let mut hcounts = s.held.counts;
+    let mut held = s.held.words;
+    let o = step_in_place(
+        r,
+        own,
+        marks,
+        &mut count,
+        &mut pending,
+        &mut pcounts,
+        &mut proven,
+        &mut hcounts,
+        &mut held,
+        line,
+        out,
+    );
+    Outcome::of(o, count, pending, pcounts, proven, hcounts, held)
+}
+
+// Opens a ballot by value, classic where `fast` is 0: P1A or FAST goes out, and the reports are forgotten. Any ballot is answered, in any state.
 pub fn open_ballot(
     r: Roster,
     own: u8,
@@ -560,39 +765,87 @@ pub fn open_ballot(
 ) -> Outcome
     ensures { λ o. ⌜ (o ≡ spec.openingReturned r own s ballot fast (now (out .entry))) × (now (out .exit) ≡ spec.openingOutput r own s ballot fast (now (out .entry))) ⌝ }
 {
-    let marks = note(s.view, s.ballot, s.classic, s.reported);
-    let proven_words: &[u64] = &s.proven.words;
-    let proven_counts: &[u8] = &s.proven.counts;
-    let held_words: &[u64] = &s.held.words;
-    let held_counts: &[u8] = &s.held.counts;
-    let room = out.len();
-    let unfit = config(
+    let marks = s.marks();
+    let mut count = s.pending.count;
+    let mut pending = s.pending.words;
+    let mut pcounts = s.proven.counts;
+    let mut proven = s.proven.words;
+    let mut hcounts = s.held.counts;
+    let mut held = s.held.words;
+    let o = open_in_place(
         r,
         own,
-        room,
         marks,
-        s.pending,
-        proven_words,
-        proven_counts,
-        held_words,
-        held_counts,
+        &mut count,
+        &mut pending,
+        &mut pcounts,
+        &mut proven,
+        &mut hcounts,
+        &mut held,
+        ballot,
+        fast,
+        out,
     );
-    if unfit {
-        return refuse(s, Refusal::Config);
-    }
-    let may = may_open(r, own, marks, ballot);
-    if !may {
-        return refuse(s, Refusal::Stale);
-    }
-    let sent = site::hand_over(true, invitation(own, s.view, ballot, fast), out);
-    Outcome {
-        answer: Answer::Accepted,
-        sent,
-        state: in_ballot(s.view, ballot, fast, s.pending),
+    Outcome::of(o, count, pending, pcounts, proven, hcounts, held)
+}
+
+impl Outcome {
+    // The outcome of what a call in place returned, and of the parts that it left.
+    fn of(
+        o: Settled,
+        count: u8,
+        pending: [u64; 32],
+        pcounts: [u8; 16],
+        proven: [u64; 512],
+        hcounts: [u8; 16],
+        held: [u64; 512],
+    ) -> Outcome
+        ensures { λ u. ⌜ u ≡ parts.outcomeOf o count pending pcounts proven hcounts held ⌝ }
+    {
+        let answer = o.answer;
+        let marks = o.marks;
+        let view = marks.view;
+        let ballot = marks.ballot;
+        Outcome {
+            answer,
+            sent: o.sent,
+            state: State {
+                view,
+                ballot,
+                classic: marks.classic,
+                pending: History {
+                    count,
+                    words: pending,
+                },
+                reported: marks.reported,
+                proven: Table {
+                    counts: pcounts,
+                    words: proven,
+                },
+                held: Table {
+                    counts: hcounts,
+                    words: held,
+                },
+            },
+        }
     }
 }
 
 impl State {
+    // The state's marks.
+    fn marks(self) -> Marks
+        ensures { λ k. ⌜ k ≡ spec.marksOf self ⌝ }
+    {
+        let view = self.view;
+        let ballot = self.ballot;
+        Marks {
+            view,
+            ballot,
+            classic: self.classic,
+            reported: self.reported,
+        }
+    }
+
     // A fresh leader: all 0 and empty.
     pub fn fresh() -> State
         ensures { λ s. ⌜ s ≡ spec.fresh ⌝ }

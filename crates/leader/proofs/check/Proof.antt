@@ -7,7 +7,7 @@ use native.Mathlib.Omega.{arith}
 use borrow.Author.Tests.{not-true, not-false}
 use lib.ListN.{length-take}
 use Rattle.refusal.specs.Rules.{judged}
-use Rattle.leader.specs.Parts.{answerIn, answerTo}
+use Rattle.leader.specs.Parts.{answerIn, answerTo, frameOf}
 use borrow.Author.Needs.{needs}
 use Rattle.leader.proofs.check.Statement.{statement}
 use Rattle.leader.proofs.check.Tie as tie
@@ -27,12 +27,9 @@ unfolding judged answerIn
 returns-2 c =
     let config-call = c .before .before .config in
     let if1 = c .before .if1 in
-    let given = c .before .before .before .before .before .before .before .args in
+    let given = c .before .before .before .before .before .before .before .before .before .args in
     let if2 = c .if2 in
     rw (sym (config-call .ensures) ∙ if1 .left, not-true (given .found) (if2 .taken))
-
-cast-first : tie.Need-cast-first
-cast-first c = search needs
 
 first-requires : tie.Need-first-requires
 first-requires c κs = search needs
@@ -40,21 +37,21 @@ first-requires c κs = search needs
 judge-requires : tie.Need-judge-requires
 judge-requires c κs =
     let first-call = c .first in
-    let required = c .before .before .before .before .before .before .before .before .before .before .before .pre in
+    let required = c .before .before .before .before .before .before .before .before .before .before .pre in
     record { short-pending = rw (first-call .ensures, length-take) (omega arith); short = rw length-take (omega (arith, required)) }
 
 returns-3 : tie.Need-returns-3
 unfolding judged answerIn
 returns-3 c =
-    let config-call = c .before .before .before .before .before .before .before .config in
-    let if1 = c .before .before .before .before .before .before .if1 in
-    let given = c .before .before .before .before .before .before .before .before .before .before .before .before .args in
-    let if2 = c .before .before .before .before .before .if2 in
+    let config-call = c .before .before .before .before .config in
+    let if1 = c .before .before .before .if1 in
+    let given = c .before .before .before .before .before .before .before .before .before .before .before .args in
+    let if2 = c .before .before .if2 in
     let judge-call = c .judge in
     let first-call = c .before .first in
-    rw (sym (config-call .ensures) ∙ if1 .left, not-false (given .found) (if2 .left)) (judge-call .ensures ∙ ap (λ (l : List ℕ). answerTo (given .r) (given .own) (given .marks) l (given .m)) (first-call .ensures))
+    rw (sym (config-call .ensures) ∙ if1 .left, not-false (given .found) (if2 .left)) (judge-call .ensures ∙ ap (λ (l : List ℕ). answerTo (given .r) (given .own) (given .marks) l (frameOf (given .f) (given .words .now))) (first-call .ensures))
 
 pub check-spec : {M : Type 1} → statement M
 check-spec =
     tie.close
-    (tie.spec config-requires returns returns-2 cast-first first-requires judge-requires returns-3)
+    (tie.spec config-requires returns returns-2 first-requires judge-requires returns-3)

@@ -26,7 +26,7 @@ all-by-requires c κs = search needs
 returns-2 : tie.Need-returns-2
 unfolding judged wrong
 returns-2 c =
-    let if1 = c .before .before .before .before .before .before .before .if1 in
+    let if1 = c .before .before .before .before .before .if1 in
     let first-call = c .before .before .before .first in
     let all-valid-call = c .before .before .all-valid in
     let all-by-call = c .before .all-by in
@@ -39,7 +39,7 @@ repeated-requires c κs = search needs
 returns-3 : tie.Need-returns-3
 unfolding judged wrong
 returns-3 c =
-    let if1 = c .before .before .before .before .before .before .before .before .before .if1 in
+    let if1 = c .before .before .before .before .before .before .before .if1 in
     let first-call = c .before .before .before .before .before .first in
     let all-valid-call = c .before .before .before .before .all-valid in
     let all-by-call = c .before .before .before .all-by in
@@ -54,7 +54,7 @@ reuses-requires c κs = search needs
 returns-4 : tie.Need-returns-4
 unfolding judged wrong
 returns-4 c =
-    let if1 = c .before .before .before .before .before .before .before .before .before .before .before .if1 in
+    let if1 = c .before .before .before .before .before .before .before .before .before .if1 in
     let first-call = c .before .before .before .before .before .before .before .first in
     let all-valid-call = c .before .before .before .before .before .before .all-valid in
     let all-by-call = c .before .before .before .before .before .all-by in
@@ -71,7 +71,7 @@ nothing-new-requires c κs = search needs
 returns-5 : tie.Need-returns-5
 unfolding judged wrong
 returns-5 c =
-    let if1 = c .before .before .before .before .before .before .before .before .before .before .before .before .before .if1 in
+    let if1 = c .before .before .before .before .before .before .before .before .before .before .before .if1 in
     let first-call = c .before .before .before .before .before .before .before .before .before .first in
     let all-valid-call = c .before .before .before .before .before .before .before .before .all-valid in
     let all-by-call = c .before .before .before .before .before .before .before .all-by in
@@ -93,7 +93,7 @@ overflows-requires c κs =
 returns-6 : tie.Need-returns-6
 unfolding judged wrong
 returns-6 c =
-    let if1 = c .before .before .before .before .before .before .before .before .before .before .before .before .before .before .before .if1 in
+    let if1 = c .before .before .before .before .before .before .before .before .before .before .before .before .before .if1 in
     let first-call = c .before .before .before .before .before .before .before .before .before .before .before .first in
     let all-valid-call = c .before .before .before .before .before .before .before .before .before .before .all-valid in
     let all-by-call = c .before .before .before .before .before .before .before .before .before .all-by in
@@ -111,7 +111,7 @@ returns-6 c =
 returns-7 : tie.Need-returns-7
 unfolding judged wrong
 returns-7 c =
-    let if1 = c .before .before .before .before .before .before .before .before .before .before .before .before .before .before .before .if1 in
+    let if1 = c .before .before .before .before .before .before .before .before .before .before .before .before .before .if1 in
     let first-call = c .before .before .before .before .before .before .before .before .before .before .before .first in
     let all-valid-call = c .before .before .before .before .before .before .before .before .before .before .all-valid in
     let all-by-call = c .before .before .before .before .before .before .before .before .before .all-by in

@@ -18,7 +18,7 @@ awaited-requires c κs = search needs
 returns-2 : tie.Need-returns-2
 unfolding judged
 returns-2 c =
-    let if1 = c .before .before .before .if1 in
+    let if1 = c .before .before .if1 in
     let awaited-call = c .before .awaited in
     let if2 = c .if2 in
     rw (if1 .left, sym (awaited-call .ensures) ∙ not-true _ (if2 .taken))
@@ -29,9 +29,9 @@ unfounded-requires c κs = search needs
 returns-3 : tie.Need-returns-3
 unfolding judged
 returns-3 c =
-    let if1 = c .before .before .before .before .before .before .if1 in
-    let awaited-call = c .before .before .before .before .awaited in
-    let if2 = c .before .before .before .if2 in
+    let if1 = c .before .before .before .before .if1 in
+    let awaited-call = c .before .before .before .awaited in
+    let if2 = c .before .before .if2 in
     let unfounded-call = c .before .unfounded in
     let if3 = c .if3 in
     rw (if1 .left, sym (awaited-call .ensures) ∙ not-false _ (if2 .left), sym (unfounded-call .ensures) ∙ if3 .taken)
@@ -57,11 +57,11 @@ all-valid-requires-2 c κs = search needs
 returns-4 : tie.Need-returns-4
 unfolding judged wrong
 returns-4 c =
-    let if1 = c .before .before .before .before .before .before .before .before .before .before .before .before .before .before .if1 in
-    let awaited-call = c .before .before .before .before .before .before .before .before .before .before .before .before .awaited in
-    let if2 = c .before .before .before .before .before .before .before .before .before .before .before .if2 in
-    let unfounded-call = c .before .before .before .before .before .before .before .before .before .unfounded in
-    let if3 = c .before .before .before .before .before .before .before .before .if3 in
+    let if1 = c .before .before .before .before .before .before .before .before .before .before .before .if1 in
+    let awaited-call = c .before .before .before .before .before .before .before .before .before .before .awaited in
+    let if2 = c .before .before .before .before .before .before .before .before .before .if2 in
+    let unfounded-call = c .before .before .before .before .before .before .before .before .unfounded in
+    let if3 = c .before .before .before .before .before .before .before .if3 in
     let first-call = c .before .before .before .before .first in
     let after-call = c .before .before .before .after in
     let all-valid-call = c .before .before .all-valid in
@@ -78,11 +78,11 @@ disordered-requires-2 c κs = search needs
 returns-5 : tie.Need-returns-5
 unfolding judged wrong
 returns-5 c =
-    let if1 = c .before .before .before .before .before .before .before .before .before .before .before .before .before .before .before .before .before .if1 in
-    let awaited-call = c .before .before .before .before .before .before .before .before .before .before .before .before .before .before .before .awaited in
-    let if2 = c .before .before .before .before .before .before .before .before .before .before .before .before .before .before .if2 in
-    let unfounded-call = c .before .before .before .before .before .before .before .before .before .before .before .before .unfounded in
-    let if3 = c .before .before .before .before .before .before .before .before .before .before .before .if3 in
+    let if1 = c .before .before .before .before .before .before .before .before .before .before .before .before .before .before .if1 in
+    let awaited-call = c .before .before .before .before .before .before .before .before .before .before .before .before .before .awaited in
+    let if2 = c .before .before .before .before .before .before .before .before .before .before .before .before .if2 in
+    let unfounded-call = c .before .before .before .before .before .before .before .before .before .before .before .unfounded in
+    let if3 = c .before .before .before .before .before .before .before .before .before .before .if3 in
     let first-call = c .before .before .before .before .before .before .before .first in
     let after-call = c .before .before .before .before .before .before .after in
     let all-valid-call = c .before .before .before .before .before .all-valid in
@@ -96,11 +96,11 @@ returns-5 c =
 returns-6 : tie.Need-returns-6
 unfolding judged wrong
 returns-6 c =
-    let if1 = c .before .before .before .before .before .before .before .before .before .before .before .before .before .before .before .before .before .if1 in
-    let awaited-call = c .before .before .before .before .before .before .before .before .before .before .before .before .before .before .before .awaited in
-    let if2 = c .before .before .before .before .before .before .before .before .before .before .before .before .before .before .if2 in
-    let unfounded-call = c .before .before .before .before .before .before .before .before .before .before .before .before .unfounded in
-    let if3 = c .before .before .before .before .before .before .before .before .before .before .before .if3 in
+    let if1 = c .before .before .before .before .before .before .before .before .before .before .before .before .before .before .if1 in
+    let awaited-call = c .before .before .before .before .before .before .before .before .before .before .before .before .before .awaited in
+    let if2 = c .before .before .before .before .before .before .before .before .before .before .before .before .if2 in
+    let unfounded-call = c .before .before .before .before .before .before .before .before .before .before .before .unfounded in
+    let if3 = c .before .before .before .before .before .before .before .before .before .before .if3 in
     let first-call = c .before .before .before .before .before .before .before .first in
     let after-call = c .before .before .before .before .before .before .after in
     let all-valid-call = c .before .before .before .before .before .all-valid in

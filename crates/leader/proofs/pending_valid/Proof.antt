@@ -7,15 +7,12 @@ use borrow.Author.Needs.{needs}
 use Rattle.leader.proofs.pending_valid.Statement.{statement}
 use Rattle.leader.proofs.pending_valid.Tie as tie
 
-cast-n : tie.Need-cast-n
-cast-n c = search needs
-
 returns : tie.Need-returns
 unfolding validPending
 returns c =
-    let given = c .before .args in
+    let given = c .before .before .args in
     let if1 = c .if1 in
-    rw (not-true (leb (given .t1 .count) 32) (if1 .taken))
+    rw (not-true (leb (given .count) 32) (if1 .taken))
 
 first-requires : tie.Need-first-requires
 first-requires c κs = search needs
@@ -29,14 +26,14 @@ repeated-requires c κs = search needs
 returns-2 : tie.Need-returns-2
 unfolding validPending
 returns-2 c =
-    let given = c .before .before .before .before .before .before .before .args in
-    let if1 = c .before .before .before .before .before .before .if1 in
+    let given = c .before .before .before .before .before .args in
+    let if1 = c .before .before .before .if1 in
     let all-valid-call = c .before .all-valid in
     let repeated-call = c .repeated in
     let first-call = c .before .before .first in
-    rw (not-false (leb (given .t1 .count) 32) (if1 .left), all-valid-call .ensures, repeated-call .ensures, first-call .ensures)
+    rw (not-false (leb (given .count) 32) (if1 .left), all-valid-call .ensures, repeated-call .ensures, first-call .ensures)
 
 pub pending-valid-spec : {M : Type 1} → statement M
 pending-valid-spec =
     tie.close
-    (tie.spec cast-n returns first-requires all-valid-requires repeated-requires returns-2)
+    (tie.spec returns first-requires all-valid-requires repeated-requires returns-2)

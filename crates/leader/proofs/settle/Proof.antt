@@ -1,8 +1,10 @@
--- `leader::settle` meets its contract: each part of the state is made by its own function, and the draft's frame is handed over.
+-- `leader::settle` meets its contract: a refused frame ends it, and each kind of an accepted one has its own way.
 -- Assumes nothing.
-use native.Mathlib.Omega.{arith}
+use mathlib.Core.Path.{sym, _∙_}
 use denote.Ref.{now}
-use Rattle.leader.proofs.Calls.{settle-done}
+use borrow.Author.Tests.{not-true, not-false}
+use Rattle.leader.specs.Parts.{stateOf, listOf, frameOf}
+use Rattle.leader.proofs.Calls.{refuses, reports, requests, elects}
 use borrow.Author.Needs.{needs}
 use Rattle.leader.proofs.settle.Statement.{statement}
 use Rattle.leader.proofs.settle.Tie as tie
@@ -10,91 +12,56 @@ use Rattle.leader.proofs.settle.Tie as tie
 accepts-requires : tie.Need-accepts-requires
 accepts-requires c κs = search needs
 
-cast-n : tie.Need-cast-n
-cast-n c =
-    let fitting = c .before .before .before .before .before .before .before .good in
-    omega (arith, fitting .1 .1 .1 .1 .0)
+returns : tie.Need-returns
+returns c =
+    let given = c .before .before .before .before .args in
+    refuses (given .r) (given .own) (stateOf (given .marks) (given .count .now) (given .pending .now) (given .pcounts .now) (given .proven .now) (given .hcounts .now) (given .held .now)) (frameOf (given .f) (given .words .now)) (given .out .now) (given .answer) (sym (c .before .accepts .ensures) ∙ not-true _ (c .if1 .taken))
 
-cast-k : tie.Need-cast-k
-cast-k c =
-    let fitting = c .before .before .before .before .before .before .before .good in
-    omega (arith, fitting .1 .1 .1 .1 .0)
-
-first-requires : tie.Need-first-requires
-first-requires c κs = search needs
-
-after-requires : tie.Need-after-requires
-after-requires c κs = search needs
-
-reported-after-requires : tie.Need-reported-after-requires
-reported-after-requires c κs = search needs
-
-entered-requires : tie.Need-entered-requires
-entered-requires c κs = search needs
-
-entered-requires-2 : tie.Need-entered-requires-2
-entered-requires-2 c κs = search needs
-
-quorum-requires : tie.Need-quorum-requires
-quorum-requires c κs = search needs
-
-reaches-requires : tie.Need-reaches-requires
-reaches-requires c κs = search needs
-
-draft-requires : tie.Need-draft-requires
-draft-requires c κs = search needs
-
-p2a-requires : tie.Need-p2a-requires
-p2a-requires c κs = search needs
-
-hand-over-requires : tie.Need-hand-over-requires
-hand-over-requires c κs = search needs
-
-view-after-requires : tie.Need-view-after-requires
-view-after-requires c κs = search needs
-
-pending-after-requires : tie.Need-pending-after-requires
-pending-after-requires c κs = search needs
+collect-requires : tie.Need-collect-requires
+collect-requires c κs = search needs
 
 same-length : tie.Need-same-length
 same-length c = search needs
 
-returns : tie.Need-returns
-returns c =
-    let given = c .before .before .before .before .before .before .before .before .before .before .before .before .before .before .before .before .before .before .before .before .before .before .before .before .args in
-    let accepts-call = c .before .before .before .before .before .before .before .before .before .before .before .before .before .before .before .before .before .before .before .before .accepts in
-    let first-call = c .before .before .before .before .before .before .before .before .before .before .before .before .before .before .before .before .first in
-    let after-call = c .before .before .before .before .before .before .before .before .before .before .before .before .before .before .before .after in
-    let reported-after-call = c .before .before .before .before .before .before .before .before .before .before .before .before .before .before .reported-after in
-    let entered-call = c .before .before .before .before .before .before .before .before .before .before .before .before .before .entered in
-    let entered2-call = c .before .before .before .before .before .before .before .before .before .before .before .before .entered2 in
-    let quorum-call = c .before .before .before .before .before .before .before .before .before .before .before .quorum in
-    let reaches-call = c .before .before .before .before .before .before .before .before .before .before .reaches in
-    let draft-call = c .before .before .before .before .before .before .before .before .before .draft in
-    let p2a-call = c .before .before .before .before .before .before .before .p2a in
-    let view-after-call = c .before .view-after in
-    let pending-after-call = c .pending-after in
-    let hand-over-call = c .before .before .before .before .before .hand-over in
-    settle-done (given .r) (given .own) (given .s) (given .answer) (given .t5) (given .out .now) (accepts-call .result) (accepts-call .ensures) (now (first-call .result)) (now (after-call .result)) (reported-after-call .result) (entered-call .result) (entered2-call .result) (quorum-call .result) (reaches-call .result) (draft-call .result) (p2a-call .result) (view-after-call .result) (pending-after-call .result) _ _ (first-call .ensures) (after-call .ensures) (reported-after-call .ensures) (entered-call .ensures) (entered2-call .ensures) (quorum-call .ensures) (reaches-call .ensures) (draft-call .ensures) (p2a-call .ensures) (view-after-call .ensures) (pending-after-call .ensures) (hand-over-call .ensures)
+returns-2 : tie.Need-returns-2
+returns-2 c =
+    let given = c .before .before .before .before .before .before .before .before .before .before .before .before .before .before .before .before .args in
+    reports (given .r) (given .own) (stateOf (given .marks) (given .count .now) (given .pending .now) (given .pcounts .now) (given .proven .now) (given .hcounts .now) (given .held .now)) (frameOf (given .f) (given .words .now)) (given .out .now) (given .answer) (sym (c .before .before .before .before .before .before .before .before .before .before .before .before .before .accepts .ensures) ∙ not-false _ (c .before .before .before .before .before .before .before .before .before .before .before .before .if1 .left)) (c .before .before .before .before .before .before .before .before .before .before .if2 .taken) _ _ (c .before .before .collect .ensures)
+
+cast-first : tie.Need-cast-first
+cast-first c = search needs
+
+first-requires : tie.Need-first-requires
+first-requires c κs = search needs
+
+lengthen-requires : tie.Need-lengthen-requires
+lengthen-requires c κs = search needs
+
+returns-3 : tie.Need-returns-3
+returns-3 c =
+    let given = c .before .before .before .before .before .before .before .before .before .before .before .before .before .args in
+    requests (given .r) (given .own) (stateOf (given .marks) (given .count .now) (given .pending .now) (given .pcounts .now) (given .proven .now) (given .hcounts .now) (given .held .now)) (frameOf (given .f) (given .words .now)) (given .out .now) (given .answer) (sym (c .before .before .before .before .before .before .before .before .before .before .accepts .ensures) ∙ not-false _ (c .before .before .before .before .before .before .before .before .before .if1 .left)) (c .before .before .before .before .before .before .before .if2 .left) (c .before .before .before .before .before .if3 .taken) (now (c .before .first .result)) (listOf (c .lengthen .last .0) (c .lengthen .last .1 .0)) (c .before .first .ensures) (c .lengthen .ensures)
+
+in-view-requires : tie.Need-in-view-requires
+in-view-requires c κs = search needs
+
+returns-4 : tie.Need-returns-4
+returns-4 c =
+    let given = c .before .before .before .before .before .before .before .before .before .args in
+    elects (given .r) (given .own) (stateOf (given .marks) (given .count .now) (given .pending .now) (given .pcounts .now) (given .proven .now) (given .hcounts .now) (given .held .now)) (frameOf (given .f) (given .words .now)) (given .out .now) (given .answer) (sym (c .before .before .before .before .before .before .accepts .ensures) ∙ not-false _ (c .before .before .before .before .before .if1 .left)) (c .before .before .before .if2 .left) (c .before .if3 .left) (c .in-view .result) (c .in-view .ensures)
 
 pub settle-spec : {M : Type 1} → statement M
 settle-spec =
     tie.close
     (tie.spec
     accepts-requires
-    cast-n
-    cast-k
-    first-requires
-    after-requires
-    reported-after-requires
-    entered-requires
-    entered-requires-2
-    quorum-requires
-    reaches-requires
-    draft-requires
-    p2a-requires
-    hand-over-requires
-    view-after-requires
-    pending-after-requires
+    returns
+    collect-requires
     same-length
-    returns)
+    returns-2
+    cast-first
+    first-requires
+    lengthen-requires
+    returns-3
+    in-view-requires
+    returns-4)
