@@ -1,20 +1,21 @@
 -- What the code's tests say in the words of the definitions.
-use mathlib.Core.Path.{_≡_, sym, ap, _∙_}
-use mathlib.Core.Bool.{Bool, true, false, not, cond}
-use mathlib.Core.List.{List}
+use mathlib.Core.Path.{_≡_, refl, sym, ap, _∙_}
+use mathlib.Core.Bool.{Bool, true, false}
+use mathlib.Core.List.{List, _++_}
 use Prim.Native.Nat.{ℕ, _≤_}
 use native.Mathlib.Omega.{arith}
-use lib.Dec.{eqb}
-use lib.ListN.{length}
+use lib.ListN.{length, take, drop}
+use lib.Seq.{length-take-le}
 use Rattle.history.specs.History.{extends}
-use Rattle.history.specs.declared.History.{History}
-use Rattle.history.specs.Words.{extendsWithin, commands}
-use Rattle.history.specs.WordsLaws.{extends-within}
+use Rattle.history.specs.Words.{padded, extendsWithin}
+use Rattle.history.specs.WordsLaws.{extends-within, padded-whole, take-padded}
+use Rattle.merge.specs.Merge.{appendedIn}
+use Rattle.merge.specs.AppendingLaws.{appended-in-work, take-appended, append-bound}
 use Rattle.roster.specs.declared.Roster.{Roster}
 use Rattle.roster.specs.declared.View.{View}
-use Rattle.table.specs.declared.Table.{Table}
-use Rattle.table.specs.Table.{row}
+use Rattle.table.specs.Table.{row, tableOf}
 use Rattle.table.specs.TableLaws.{length-row}
+use Rattle.refusal.specs.declared.Refusal.{Refusal}
 use Rattle.refusal.specs.declared.Refusal.the-variants.{Form, Contradiction}
 use Rattle.refusal.specs.declared.Answer.the-variants.{Accepted}
 use Rattle.refusal.specs.Rules.{judged}
@@ -22,12 +23,13 @@ use Rattle.frame.specs.declared.Frame.{Frame}
 use Rattle.frame.specs.declared.Reading.{Reading}
 use Rattle.frame.specs.Format.{readingOf, malformed}
 use Rattle.site.specs.declared.ViewRecord.{ViewRecord}
-use Rattle.site.specs.Reply.{Reply, sendsIf, lengthSent, buffer}
+use Rattle.site.specs.Reply.{Reply, sends, lengthSent, buffer}
 use Rattle.acceptor.specs.declared.State.{State}
 use Rattle.acceptor.specs.declared.Marks.{Marks}
 use Rattle.acceptor.specs.declared.Verdict.{Verdict}
-use Rattle.acceptor.specs.Acceptor.{taken, received, outcome}
-use Rattle.acceptor.specs.Verdict.{idle, against, putting, proving, agreeing, convinces, onStore, onEntry, onFrame, config, onLine, frameOf, entered, stateOf, settled}
+use Rattle.acceptor.specs.Acceptor.{taken, received, heldOf, provenOf, config, outcome}
+use Rattle.acceptor.specs.Verdict.{marksOf, historyOf, stateOf, outcomeOf, Ruling, ruled, idle, against, putting, proving, arranged, United, onUnion, agreeing, convinces, onStore, onEntry, headingOf, onFrame, onReading, onLine, Handed, sendingOf, replaced, entered, settled}
+use Rattle.acceptor.specs.VerdictLaws.{ruled-kept, kept-union}
 
 -- the code's test of extension, of a list of at most 32 commands
 pub extends-is : (h g : List ℕ) (b : Bool) → length h ≤ 32 → b ≡ extendsWithin 64 h g → extends h g ≡ b
@@ -45,60 +47,108 @@ module _ (r : Roster) (k : Marks) (proven words counts : List ℕ) (site : ℕ) 
   -- ---- a VERIFY that is stored: m is the mask of those that agree, and b tells whether the history becomes proven
 
   module _ (m : ℕ) (b : Bool) (e : m ≡ agreeing r words counts site h) (f : b ≡ convinces r k proven m h) where
-    pub store-only : b ≡ false → putting k site h false false 0 ≡ onStore r k proven words counts site h
+    pub store-only : b ≡ false → putting k site h false false 0 .verdict ≡ onStore r k proven words counts site h .verdict
     unfolding onStore
     store-only p = rw (← e, ← f, p)
 
-    pub store-proves : b ≡ true → proving k site h m ≡ onStore r k proven words counts site h
+    pub store-proves : b ≡ true → proving k site h m .verdict ≡ onStore r k proven words counts site h .verdict
     unfolding onStore
     store-proves p = rw (← e, ← f, p)
 
   -- ---- a VERIFY against the sender's entry
 
-  pub entry-newer : extends h (row words counts site) ≡ true → onStore r k proven words counts site h ≡ onEntry r k proven words counts site h
+  pub entry-newer : extends h (row words counts site) ≡ true → onStore r k proven words counts site h .verdict ≡ onEntry r k proven words counts site h .verdict
   unfolding judged
   entry-newer p = rw p
 
   pub entry-older : extends h (row words counts site) ≡ false → extends (row words counts site) h ≡ true
-      → idle k Accepted ≡ onEntry r k proven words counts site h
+      → idle k Accepted .verdict ≡ onEntry r k proven words counts site h .verdict
   unfolding judged
   entry-older p q = rw (p, q)
 
   pub entry-neither : extends h (row words counts site) ≡ false → extends (row words counts site) h ≡ false
-      → against k Contradiction ≡ onEntry r k proven words counts site h
+      → against k Contradiction .verdict ≡ onEntry r k proven words counts site h .verdict
   unfolding judged
   entry-neither p q = rw (p, q)
 
--- ---- a line: o is what reading it found, h and g are what is held and what is proven
+-- ---- a verdict that refuses, whatever the words
 
-module _ (r : Roster) (own room : ℕ) (v : ViewRecord) (k : Marks) (held proven : History) (words counts line : List ℕ)
-    (c : config r own room v k held proven words counts ≡ false) where
-  read-none : readingOf line taken .found ≡ false → against k Form ≡ onLine r own room v k held proven words counts line
-  unfolding onLine malformed judged
-  read-none p = rw (c, p)
+pub refusing : {d : Verdict} {k : Marks} {e : Refusal} (w : List ℕ) → d ≡ against k e .verdict → ruled d w ≡ against k e
+refusing {k = k} {e = e} w p = ruled-kept w (against k e) refl p
+
+-- ---- a union in place: b is the buffer with n commands at its front
+
+module _ (held b : List ℕ) (n : ℕ) (p : length held ≤ 32) (q : n ≤ 32) (z : length b ≡ 64) where
+  -- the n commands, copied
+  pub copied : (l : List ℕ) → l ≡ padded 32 (take n b) → take n l ≡ take n b
+  copied l e =
+      let size : length (take n b) ≡ n = length-take-le n b (omega arith) in
+      let short : length (take n b) ≤ 32 = omega arith in
+      rw e (ap (λ (i : ℕ). take i (padded 32 (take n b))) (sym size) ∙ take-padded 32 (take n b) short)
+
+  -- x is the buffer with what is held, h the commands, and w what appending k of both leaves
+  pub united : (x h : List ℕ) (k : ℕ) (w : List ℕ) → x ≡ padded (length b) held → h ≡ take n b
+      → (k ≡ length (appendedIn x (length held) h)) × (w ≡ appendedIn x (length held) h ++ drop k x) → United held (take n b) k w
+  united x h k w e f a =
+      let short : length (take n b) ≤ 32 = omega (arith, length-take-le n b (omega arith)) in
+      record {
+        room = append-bound x (length held) h k w (a .0) (a .1);
+        front =
+            take-appended x (length held) h k w (a .0) (a .1)
+            ∙ ap (λ (l : List ℕ). appendedIn l (length held) h) (e ∙ ap (λ (i : ℕ). padded i held) z)
+            ∙ rw f (appended-in-work held (take n b) p short);
+      }
+
+-- the verdict on a union x at the front of a buffer, of which l is what is left in its place
+pub grown : {d : Verdict} (own : ℕ) (k : Marks) (x w l more : List ℕ) → x ≡ w → (d ≡ onUnion own k x .verdict) × (l ≡ arranged x)
+    → ruled d (l ++ more) ≡ onUnion own k w
+grown own k x w l more e a = ruled-kept (l ++ more) (onUnion own k x) (rw (a .1) (kept-union own k x more)) (a .0) ∙ ap (onUnion own k) e
+
+-- ---- a line: o is what reading it found, w the buffer with its words
+
+module _ (r : Roster) (own : ℕ) (view : View) (k : Marks) (held proven words counts line : List ℕ) where
+  read-none : readingOf line taken .found ≡ false → against k Form ≡ onReading r own view k held proven words counts line
+  unfolding onReading malformed judged
+  read-none p = rw p
 
   read-frame : readingOf line taken .found ≡ true
-      → onFrame r own (v .view) k (commands held) (commands proven) words counts (received line) ≡ onLine r own room v k held proven words counts line
-  unfolding onLine malformed judged
-  read-frame p = rw (c, p)
+      → onFrame r own view k held proven words counts (headingOf (received line)) (received line .words) ≡ onReading r own view k held proven words counts line
+  unfolding onReading malformed judged
+  read-frame p = rw p
 
   module _ (o : Reading) (e : o ≡ readingOf line taken) where
-    pub line-form : o .found ≡ false → against k Form ≡ onLine r own room v k held proven words counts line
+    pub line-form : o .found ≡ false → against k Form ≡ onReading r own view k held proven words counts line
     line-form p = read-none (rw e at p)
 
-    pub line-frame : o .found ≡ true → (h g : List ℕ) → h ≡ commands held → g ≡ commands proven
-        → onFrame r own (v .view) k h g words counts (o .frame) ≡ onLine r own room v k held proven words counts line
-    line-frame p h g f q = rw (f, q, e) (read-frame (rw e at p))
+    pub line-frame : o .found ≡ true → (n : ℕ) (w : List ℕ) → w ≡ padded n (o .frame .words) → n ≡ length (o .frame .words)
+        → onFrame r own view k held proven words counts (headingOf (o .frame)) w ≡ onReading r own view k held proven words counts line
+    line-frame p n w f q =
+        let whole : w ≡ o .frame .words = f ∙ ap (λ (i : ℕ). padded i (o .frame .words)) q ∙ padded-whole (o .frame .words) in
+        rw (whole, e) (read-frame (rw e at p))
 
--- ---- what is handed over: o is what the line gives, d the verdict, m the frame made of it, h, g and t the histories and the table after it, n the
--- length of the frame's line and l the buffer
+-- a line in a state that CONFIG lets pass: h and g are what is held and what is proven
+pub line-fit : (r : Roster) (own room : ℕ) (v : ViewRecord) (s : State) (line h g : List ℕ) → config r own room v s ≡ false → h ≡ heldOf s → g ≡ provenOf s
+    → onReading r own (v .view) (marksOf s) h g (s .verified .words) (s .verified .counts) line ≡ onLine r own room v s line
+unfolding onLine judged
+line-fit r own room v s line h g e p q = rw (p, q, e)
 
-module _ (own : ℕ) (view : View) (s : State) (out : List ℕ) (o : Reply State) (d : Verdict) (e : settled own view s d ≡ o) where
-  pub handed : (m : Frame) (h g : History) (t : Table) (n : ℕ) (l : List ℕ)
-      → m ≡ frameOf own view d (s .held) (s .proven)
-      → h ≡ cond (d .signs) (d .history) (s .held)
-      → g ≡ cond (d .proves) (d .history) (s .proven)
-      → t ≡ entered (s .verified) (d .opens) (d .stores) (d .site) (d .history)
-      → (n ≡ lengthSent (sendsIf (not (eqb (d .kind) 0)) m) out) × (l ≡ buffer (sendsIf (not (eqb (d .kind) 0)) m) out)
-      → (record { answer = d .answer; sent = n; state = stateOf (d .marks) h g t } ≡ outcome o out) × (l ≡ buffer (o .sending) out)
-  handed m h g t n l x y z u p = (rw (← e, y, z, u, p .0, x), p .1 ∙ rw (← e, x))
+-- ---- what is handed over: m is the frame made, n the frame to send
+
+pub handing : (m n : Frame) (k : ℕ) (out after : List ℕ) → m ≡ n → (k ≡ lengthSent (sends m) out) × (after ≡ buffer (sends m) out)
+    → Handed (sends n) k out after
+handing m n k out after e p =
+    record { size = p .0 ∙ ap (λ (x : Frame). lengthSent (sends x) out) e; left = p .1 ∙ ap (λ (x : Frame). buffer (sends x) out) e }
+
+-- ---- a step in place: x is what the line gives, d the verdict on it, w the buffer with its history
+
+module _ (own : ℕ) (view : View) (s : State) (out : List ℕ) (x : Reply State) (d : Verdict) (w : List ℕ) (e : settled own view s (ruled d w) ≡ x) where
+  -- h is that history, g and k what is held and what is proven; then the parts after the step, the length sent and the buffer that is left
+  pub carried-out : (h g k : List ℕ) (i : ℕ) (held : List ℕ) (j : ℕ) (proven counts words : List ℕ) (n : ℕ) (l : List ℕ)
+      → h ≡ take (d .count) w → g ≡ heldOf s → k ≡ provenOf s
+      → Handed (sendingOf own view d h g k) n out l
+      → historyOf i held ≡ replaced (d .signs) h (s .held)
+      → historyOf j proven ≡ replaced (d .proves) h (s .proven)
+      → tableOf words counts ≡ entered (d .opens) (d .stores) (d .site) h (s .verified)
+      → (outcomeOf (record { answer = d .answer; sent = n; marks = d .marks }) i held j proven counts words ≡ outcome x out) × (l ≡ buffer (x .sending) out)
+  carried-out h g k i held j proven counts words n l f a b p y z u =
+      (rw (← e, y, z, u, p .size, a, b, f), p .left ∙ rw (← e, a, b, f))

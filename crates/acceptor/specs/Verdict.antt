@@ -1,10 +1,11 @@
--- The verdict on a line: what is decided of it before the new state is made, from the parts of the state that the code lends. The entries that equal
+-- The verdict on a line: what is decided of it before the state is changed, from the parts of the state that the code lends. The entries that equal
 -- a history are those that were there, the sender's being one of them once its VERIFY is stored.
+use mathlib.Core.Path.{_≡_}
 use mathlib.Core.Bool.{Bool, true, false, not, cond, _&&_, _||_}
 use mathlib.Core.List.{List, [], _∷_}
 use Prim.Native.Nat.{ℕ, _≤_}
 use lib.Dec.{leb, ltb, eqb}
-use lib.ListN.{length, replicate}
+use lib.ListN.{length, take}
 use Rattle.roster.specs.declared.Roster.{Roster}
 use Rattle.roster.specs.declared.View.{View}
 use Rattle.roster.specs.declared.Ballot.{Ballot}
@@ -14,7 +15,7 @@ use Rattle.roster.specs.Sites.{maskTo}
 use Rattle.command.specs.Command.{wrong, allBy}
 use Rattle.history.specs.declared.History.{History}
 use Rattle.history.specs.History.{repeated, canonical, equal, improper, extends}
-use Rattle.history.specs.Words.{limit, commands, stored}
+use Rattle.history.specs.Words.{limit, stored}
 use Rattle.merge.specs.Merge.{appended}
 use Rattle.merge.specs.Appending.{reuses, nothingNew}
 use Rattle.table.specs.declared.Table.{Table}
@@ -28,16 +29,18 @@ use Rattle.frame.specs.declared.Frame.{Frame}
 use Rattle.site.specs.declared.ViewRecord.{ViewRecord}
 use Rattle.site.specs.Site.{isSet}
 use Rattle.site.specs.Message.{message}
-use Rattle.site.specs.Reply.{Reply, sendsIf}
+use Rattle.site.specs.Reply.{Sending, Reply, sendsIf, lengthSent, buffer}
 use Rattle.acceptor.specs.declared.State.{State}
+use Rattle.acceptor.specs.declared.Outcome.{Outcome}
+use Rattle.acceptor.specs.declared.Settled.{Settled}
 use Rattle.acceptor.specs.declared.Marks.{Marks}
+use Rattle.acceptor.specs.declared.Heading.{Heading}
 use Rattle.acceptor.specs.declared.Verdict.{Verdict}
-use Rattle.acceptor.specs.Acceptor as acceptor
-use Rattle.acceptor.specs.Acceptor.{carried, received, form}
+use Rattle.acceptor.specs.Acceptor.{heldOf, provenOf, received, config, form}
 
 -- ---- the parts of a state
 
--- what a state keeps beside its histories and its table, the same of these values, and a state of its parts
+-- what a state keeps beside its histories and its table, and the same of these values
 abbrev pub marksOf : State → Marks
 marksOf s = record { ballot = s .ballot; fast = s .fast; signed = s .signed; certified = s .certified; certificate = s .certificate }
 
@@ -45,77 +48,105 @@ abbrev pub noted : Ballot → ℕ → ℕ → Ballot → ℕ → Marks
 noted ballot fast signed certified certificate =
     record { ballot = ballot; fast = fast; signed = signed; certified = certified; certificate = certificate }
 
-abbrev pub stateOf : Marks → History → History → Table → State
-stateOf k held proven t =
+-- a history of its count and its words
+abbrev pub historyOf : ℕ → List ℕ → History
+historyOf n w = record { count = n; words = w }
+
+-- the state of its parts: the marks, the count and the words of what is held and of what is proven, the counts and the words of the table
+abbrev pub stateOf : Marks → ℕ → List ℕ → ℕ → List ℕ → List ℕ → List ℕ → State
+stateOf k n held m proven counts words =
     record {
       ballot = k .ballot;
       fast = k .fast;
       signed = k .signed;
-      held = held;
-      proven = proven;
+      held = historyOf n held;
+      proven = historyOf m proven;
       certified = k .certified;
       certificate = k .certificate;
-      verified = t;
+      verified = tableOf words counts;
     }
+
+-- the outcome of a call in place, of what it gives and of the parts that it leaves
+abbrev pub outcomeOf : Settled → ℕ → List ℕ → ℕ → List ℕ → List ℕ → List ℕ → Outcome
+outcomeOf o n held m proven counts words =
+    record { answer = o .answer; sent = o .sent; state = stateOf (o .marks) n held m proven counts words }
 
 -- ---- the verdicts
 
+-- a verdict, and the history that it speaks of
+pub record Ruling : Type 0 where
+  pub verdict : Verdict
+  pub history : List ℕ
+
+-- the same where the history is the first of these words, as many as the verdict says
+abbrev pub ruled : Verdict → List ℕ → Ruling
+ruled d w = record { verdict = d; history = take (d .count) w }
+
 -- nothing changes
-abbrev pub idle : Marks → Answer → Verdict
+abbrev pub idle : Marks → Answer → Ruling
 idle k a =
     record {
-      answer = a;
-      marks = k;
-      opens = false;
-      signs = false;
-      proves = false;
-      stores = false;
-      site = 0;
-      history = record { count = 0; words = replicate limit 0 };
-      kind = 0;
+      verdict = record {
+        answer = a;
+        marks = k;
+        opens = false;
+        signs = false;
+        proves = false;
+        stores = false;
+        site = 0;
+        count = 0;
+        kind = 0;
+      };
+      history = [];
     }
 
 -- refused
-abbrev pub against : Marks → Refusal → Verdict
+abbrev pub against : Marks → Refusal → Ruling
 against k e = idle k (Refused e)
 
 -- the ballot is taken, and a frame of this kind goes out
-abbrev pub opening : Marks → Ballot → ℕ → ℕ → Verdict
+abbrev pub opening : Marks → Ballot → ℕ → ℕ → Ruling
 opening k ballot fast kind =
     record {
-      answer = Accepted;
-      marks = record { ballot = ballot; fast = fast; signed = 0; certified = k .certified; certificate = k .certificate };
-      opens = true;
-      signs = false;
-      proves = false;
-      stores = false;
-      site = 0;
-      history = record { count = 0; words = replicate limit 0 };
-      kind = kind;
+      verdict = record {
+        answer = Accepted;
+        marks = record { ballot = ballot; fast = fast; signed = 0; certified = k .certified; certificate = k .certificate };
+        opens = true;
+        signs = false;
+        proves = false;
+        stores = false;
+        site = 0;
+        count = 0;
+        kind = kind;
+      };
+      history = [];
     }
 
 -- h becomes the entry of a site
-abbrev pub putting : Marks → ℕ → List ℕ → Bool → Bool → ℕ → Verdict
+abbrev pub putting : Marks → ℕ → List ℕ → Bool → Bool → ℕ → Ruling
 putting k site h signs proves kind =
     record {
-      answer = Accepted;
-      marks = k;
-      opens = false;
-      signs = signs;
-      proves = proves;
-      stores = true;
-      site = site;
-      history = stored h;
-      kind = kind;
+      verdict = record {
+        answer = Accepted;
+        marks = k;
+        opens = false;
+        signs = signs;
+        proves = proves;
+        stores = true;
+        site = site;
+        count = length h;
+        kind = kind;
+      };
+      history = h;
     }
 
 -- h is signed
-abbrev pub signing : ℕ → Marks → List ℕ → Verdict
+abbrev pub signing : ℕ → Marks → List ℕ → Ruling
 signing own k h =
     putting (record { ballot = k .ballot; fast = k .fast; signed = 1; certified = k .certified; certificate = k .certificate }) own h true false 6
 
 -- h becomes proven by the sites of the mask
-abbrev pub proving : Marks → ℕ → List ℕ → ℕ → Verdict
+abbrev pub proving : Marks → ℕ → List ℕ → ℕ → Ruling
 proving k site h mask =
     putting (record { ballot = k .ballot; fast = k .fast; signed = k .signed; certified = k .ballot; certificate = mask }) site h false true 7
 
@@ -126,38 +157,47 @@ unfoldable pub outsider : Roster → ℕ → View → Bool
 outsider r site view = leb (r .n) site || not (eqb site (leaderOf r view))
 
 -- P1A, FAST
-abbrev pub openingRules : Roster → View → Marks → ℕ → View → Ballot → List Rule
-openingRules r view k site asked ballot =
-    outsider r site asked gives Sender ∷ not (eqb (asked .0) (view .0) && ltb (k .ballot .0) (ballot .0)) gives Stale ∷ []
+abbrev pub openingRules : Roster → View → Marks → Heading → List Rule
+openingRules r view k e =
+    outsider r (e .sender) (e .view) gives Sender ∷ not (eqb (e .view .0) (view .0) && ltb (k .ballot .0) (e .ballot .0)) gives Stale ∷ []
 
-unfoldable pub onOpening : Roster → View → Marks → ℕ → View → Ballot → ℕ → ℕ → Verdict
-onOpening r view k site asked ballot fast kind = judged (against k) (opening k ballot fast kind) (openingRules r view k site asked ballot)
+unfoldable pub onOpening : Roster → View → Marks → Heading → ℕ → ℕ → Ruling
+onOpening r view k e fast kind = judged (against k) (opening k (e .ballot) fast kind) (openingRules r view k e)
 
 -- PROPOSE: the length, then the histories, then all
 abbrev pub unionRules : List ℕ → List Rule
 unionRules w = ltb limit (length w) gives Full ∷ []
 
-abbrev pub onUnion : ℕ → Marks → List ℕ → Verdict
+abbrev pub onUnion : ℕ → Marks → List ℕ → Ruling
 onUnion own k w = judged (against k) (signing own k (canonical w)) (unionRules w)
 
-abbrev pub onGrowth : ℕ → Marks → List ℕ → List ℕ → Verdict
+-- the union after that: in canonical order, or as it was
+unfoldable pub arranged : List ℕ → List ℕ
+arranged w = cond (ltb limit (length w)) w (canonical w)
+
+-- w begins with what is held and the new commands, k words
+pub record United (held h : List ℕ) (k : ℕ) (w : List ℕ) : Type 0 where
+  pub room : k ≤ length w
+  pub front : take k w ≡ appended held h
+
+abbrev pub onGrowth : ℕ → Marks → List ℕ → List ℕ → Ruling
 onGrowth own k held h = onUnion own k (appended held h)
 
 abbrev pub commandRules : List ℕ → List ℕ → List ℕ → List Rule
 commandRules held proven h = not (extends held proven) gives Behind ∷ reuses held h gives Reused ∷ nothingNew held h gives Nothing ∷ []
 
-abbrev pub onCommands : ℕ → Marks → List ℕ → List ℕ → List ℕ → Verdict
+abbrev pub onCommands : ℕ → Marks → List ℕ → List ℕ → List ℕ → Ruling
 onCommands own k held proven h = judged (against k) (onGrowth own k held h) (commandRules held proven h)
 
-abbrev pub proposalRules : Marks → ℕ → Ballot → List ℕ → List Rule
-proposalRules k site ballot h =
-    eqb site 0 gives Sender ∷
-    not (eqb (ballot .0) (k .ballot .0) && isSet (k .fast)) gives Stale ∷
-    (wrong h || not (allBy site h)) gives Command ∷
+abbrev pub proposalRules : Marks → Heading → List ℕ → List Rule
+proposalRules k e h =
+    eqb (e .sender) 0 gives Sender ∷
+    not (eqb (e .ballot .0) (k .ballot .0) && isSet (k .fast)) gives Stale ∷
+    (wrong h || not (allBy (e .sender) h)) gives Command ∷
     (repeated h || eqb (length h) 0) gives Improper ∷ []
 
-unfoldable pub onProposal : ℕ → Marks → List ℕ → List ℕ → ℕ → Ballot → List ℕ → Verdict
-onProposal own k held proven site ballot h = judged (against k) (onCommands own k held proven h) (proposalRules k site ballot h)
+unfoldable pub onProposal : ℕ → Marks → List ℕ → List ℕ → Heading → List ℕ → Ruling
+onProposal own k held proven e h = judged (against k) (onCommands own k held proven h) (proposalRules k e h)
 
 -- BEHIND, of a P2A
 unfoldable pub lags : ℕ → List ℕ → List ℕ → List ℕ → Bool
@@ -167,17 +207,16 @@ lags signed held proven h = not (extends h proven) || (isSet signed && not (exte
 abbrev pub orderedRules : Marks → List ℕ → List ℕ → List ℕ → List Rule
 orderedRules k held proven h = wrong h gives Command ∷ improper h gives Improper ∷ lags (k .signed) held proven h gives Behind ∷ []
 
-abbrev pub onOrdered : ℕ → Marks → List ℕ → List ℕ → List ℕ → Verdict
+abbrev pub onOrdered : ℕ → Marks → List ℕ → List ℕ → List ℕ → Ruling
 onOrdered own k held proven h = judged (against k) (signing own k h) (orderedRules k held proven h)
 
-abbrev pub orderRules : Roster → View → Marks → ℕ → View → Ballot → List Rule
-orderRules r view k site asked ballot =
-    outsider r site asked gives Sender ∷
-    not (eqb (asked .0) (view .0) && (eqb (ballot .0) (k .ballot .0) && eqb (k .fast) 0)) gives Stale ∷ []
+abbrev pub orderRules : Roster → View → Marks → Heading → List Rule
+orderRules r view k e =
+    outsider r (e .sender) (e .view) gives Sender ∷
+    not (eqb (e .view .0) (view .0) && (eqb (e .ballot .0) (k .ballot .0) && eqb (k .fast) 0)) gives Stale ∷ []
 
-unfoldable pub onOrder : Roster → ℕ → View → Marks → List ℕ → List ℕ → ℕ → View → Ballot → List ℕ → Verdict
-onOrder r own view k held proven site asked ballot h =
-    judged (against k) (onOrdered own k held proven h) (orderRules r view k site asked ballot)
+unfoldable pub onOrder : Roster → ℕ → View → Marks → List ℕ → List ℕ → Heading → List ℕ → Ruling
+onOrder r own view k held proven e h = judged (against k) (onOrdered own k held proven h) (orderRules r view k e)
 
 -- whether site i's entry is h once `site` has verified it, and the mask of those below N whose entry is
 abbrev pub agrees : List ℕ → List ℕ → ℕ → List ℕ → ℕ → Bool
@@ -192,7 +231,7 @@ convinces r k proven mask h =
     reaches mask (quorum r) && (extends h proven && not (equal proven h && eqb (k .certified .0) (k .ballot .0)))
 
 -- VERIFY: stored, then against the entry, then all
-unfoldable pub onStore : Roster → Marks → List ℕ → List ℕ → List ℕ → ℕ → List ℕ → Verdict
+unfoldable pub onStore : Roster → Marks → List ℕ → List ℕ → List ℕ → ℕ → List ℕ → Ruling
 onStore r k proven words counts site h =
     cond (convinces r k proven (agreeing r words counts site h) h)
     (proving k site h (agreeing r words counts site h))
@@ -201,94 +240,111 @@ onStore r k proven words counts site h =
 abbrev pub entryRules : List ℕ → List ℕ → List Rule
 entryRules entry h = (not (extends h entry) && not (extends entry h)) gives Contradiction ∷ []
 
-abbrev pub fitting : Roster → Marks → List ℕ → List ℕ → List ℕ → ℕ → List ℕ → Bool → Verdict
+abbrev pub fitting : Roster → Marks → List ℕ → List ℕ → List ℕ → ℕ → List ℕ → Bool → Ruling
 fitting r k proven words counts site h newer = cond newer (onStore r k proven words counts site h) (idle k Accepted)
 
-abbrev pub onEntry : Roster → Marks → List ℕ → List ℕ → List ℕ → ℕ → List ℕ → Verdict
+abbrev pub onEntry : Roster → Marks → List ℕ → List ℕ → List ℕ → ℕ → List ℕ → Ruling
 onEntry r k proven words counts site h =
     judged (against k) (fitting r k proven words counts site h (extends h (row words counts site))) (entryRules (row words counts site) h)
 
-abbrev pub verifyRules : Roster → View → Marks → ℕ → View → Ballot → List ℕ → List Rule
-verifyRules r view k site asked ballot h =
-    leb (r .n) site gives Sender ∷
-    not (eqb (asked .0) (view .0) && eqb (ballot .0) (k .ballot .0)) gives Stale ∷
+abbrev pub verifyRules : Roster → View → Marks → Heading → List ℕ → List Rule
+verifyRules r view k e h =
+    leb (r .n) (e .sender) gives Sender ∷
+    not (eqb (e .view .0) (view .0) && eqb (e .ballot .0) (k .ballot .0)) gives Stale ∷
     wrong h gives Command ∷
     improper h gives Improper ∷ []
 
-unfoldable pub onVerify : Roster → View → Marks → List ℕ → List ℕ → List ℕ → ℕ → View → Ballot → List ℕ → Verdict
-onVerify r view k proven words counts site asked ballot h =
-    judged (against k) (onEntry r k proven words counts site h) (verifyRules r view k site asked ballot h)
+unfoldable pub onVerify : Roster → View → Marks → List ℕ → List ℕ → List ℕ → Heading → List ℕ → Ruling
+onVerify r view k proven words counts e h = judged (against k) (onEntry r k proven words counts (e .sender) h) (verifyRules r view k e h)
 
 -- ---- the verdict on a frame, and on a line
 
--- no more than 16 sites, and lists of at most 32 commands
-pub record Sizes (r : Roster) (held h : List ℕ) : Type 0 where
+-- the small fields of a frame
+abbrev pub headingOf : Frame → Heading
+headingOf m = record { kind = m .kind; sender = m .sender; view = m .view; ballot = m .ballot; n = m .n }
+
+-- the history of a frame with these words
+abbrev pub carriedIn : Heading → List ℕ → List ℕ
+carriedIn e w = take (e .n) w
+
+-- no more than 16 sites, lists of at most 32 commands, and room for a union of two
+pub record Sizes (r : Roster) (held : List ℕ) (n : ℕ) (w : List ℕ) : Type 0 where
   pub few-sites : r .n ≤ 16
   pub short-held : length held ≤ 32
-  pub short : length h ≤ 32
+  pub short : n ≤ 32
+  pub room : length w ≡ 64
 
-unfoldable pub onCarried : Roster → ℕ → View → Marks → List ℕ → List ℕ → List ℕ → List ℕ → Frame → Verdict
-onCarried r own view k held proven words counts m =
-    cond (eqb (m .kind) 4) (onProposal own k held proven (m .sender) (m .ballot) (carried m))
-    (cond (eqb (m .kind) 5) (onOrder r own view k held proven (m .sender) (m .view) (m .ballot) (carried m))
-    (onVerify r view k proven words counts (m .sender) (m .view) (m .ballot) (carried m)))
+unfoldable pub onCarried : Roster → ℕ → View → Marks → List ℕ → List ℕ → List ℕ → List ℕ → Heading → List ℕ → Ruling
+onCarried r own view k held proven words counts e w =
+    cond (eqb (e .kind) 4) (onProposal own k held proven e (carriedIn e w))
+    (cond (eqb (e .kind) 5) (onOrder r own view k held proven e (carriedIn e w))
+    (onVerify r view k proven words counts e (carriedIn e w)))
 
-unfoldable pub onFrame : Roster → ℕ → View → Marks → List ℕ → List ℕ → List ℕ → List ℕ → Frame → Verdict
-onFrame r own view k held proven words counts m =
-    cond (eqb (m .kind) 1) (onOpening r view k (m .sender) (m .view) (m .ballot) 0 3)
-    (cond (eqb (m .kind) 2) (onOpening r view k (m .sender) (m .view) (m .ballot) 1 0) (onCarried r own view k held proven words counts m))
+unfoldable pub onFrame : Roster → ℕ → View → Marks → List ℕ → List ℕ → List ℕ → List ℕ → Heading → List ℕ → Ruling
+onFrame r own view k held proven words counts e w =
+    cond (eqb (e .kind) 1) (onOpening r view k e 0 3)
+    (cond (eqb (e .kind) 2) (onOpening r view k e 1 0) (onCarried r own view k held proven words counts e w))
 
--- CONFIG, of a state of these parts
-abbrev pub config : Roster → ℕ → ℕ → ViewRecord → Marks → History → History → List ℕ → List ℕ → Bool
-config r own room v k held proven words counts = acceptor.config r own room v (stateOf k held proven (tableOf words counts))
+-- a line, in a state of these parts, and in any state
+unfoldable pub onReading : Roster → ℕ → View → Marks → List ℕ → List ℕ → List ℕ → List ℕ → List ℕ → Ruling
+onReading r own view k held proven words counts line =
+    judged (against k) (onFrame r own view k held proven words counts (headingOf (received line)) (received line .words)) (form line gives Form ∷ [])
 
-abbrev pub lineRules : Roster → ℕ → ℕ → ViewRecord → Marks → History → History → List ℕ → List ℕ → List ℕ → List Rule
-lineRules r own room v k held proven words counts line =
-    config r own room v k held proven words counts gives Config ∷ form line gives Form ∷ []
-
-unfoldable pub onLine : Roster → ℕ → ℕ → ViewRecord → Marks → History → History → List ℕ → List ℕ → List ℕ → Verdict
-onLine r own room v k held proven words counts line =
-    judged (against k) (onFrame r own (v .view) k (commands held) (commands proven) words counts (received line))
-    (lineRules r own room v k held proven words counts line)
+unfoldable pub onLine : Roster → ℕ → ℕ → ViewRecord → State → List ℕ → Ruling
+onLine r own room v s line =
+    judged (against (marksOf s))
+    (onReading r own (v .view) (marksOf s) (heldOf s) (provenOf s) (s .verified .words) (s .verified .counts) line)
+    (config r own room v s gives Config ∷ [])
 
 -- ---- what a verdict does
 
 -- the frame that it sends: P1B, VERIFY or P2B
-abbrev pub report : ℕ → Marks → History → History → Frame
-report own k held proven = message 3 own (record { 0 = 0 }) (k .ballot) (k .certified) (k .certificate) (commands proven) (commands held)
+abbrev pub report : ℕ → Marks → List ℕ → List ℕ → Frame
+report own k held proven = message 3 own (record { 0 = 0 }) (k .ballot) (k .certified) (k .certificate) (take limit proven) (take limit held)
 
-abbrev pub notice : ℕ → ℕ → View → Ballot → ℕ → History → Frame
-notice kind own view ballot mask h = message kind own view ballot (record { 0 = 0 }) mask (commands h) []
+abbrev pub notice : ℕ → ℕ → View → Ballot → ℕ → List ℕ → Frame
+notice kind own view ballot mask h = message kind own view ballot (record { 0 = 0 }) mask (take limit h) []
 
-abbrev pub frameOf : ℕ → View → Verdict → History → History → Frame
-frameOf own view d held proven =
+abbrev pub frameOf : ℕ → View → Verdict → List ℕ → List ℕ → List ℕ → Frame
+frameOf own view d h held proven =
     cond (eqb (d .kind) 3) (report own (d .marks) held proven)
-    (cond (eqb (d .kind) 6) (notice 6 own view (d .marks .ballot) 0 (d .history))
-    (notice 7 own (record { 0 = 0 }) (d .marks .ballot) (d .marks .certificate) (d .history)))
+    (cond (eqb (d .kind) 6) (notice 6 own view (d .marks .ballot) 0 h) (notice 7 own (record { 0 = 0 }) (d .marks .ballot) (d .marks .certificate) h))
 
--- the table after it
-abbrev pub entered : Table → Bool → Bool → ℕ → History → Table
-entered t opens stores site history = cond opens emptyTable (cond stores (storedAt t site (commands history)) t)
+abbrev pub sendingOf : ℕ → View → Verdict → List ℕ → List ℕ → List ℕ → Sending
+sendingOf own view d h held proven = sendsIf (not (eqb (d .kind) 0)) (frameOf own view d h held proven)
+
+-- k bytes of a buffer are to be sent, and the buffer after that
+pub record Handed (x : Sending) (k : ℕ) (out after : List ℕ) : Type 0 where
+  pub size : k ≡ lengthSent x out
+  pub left : after ≡ buffer x out
+
+-- a history after it: this one if it is due, or as it was
+abbrev pub replaced : Bool → List ℕ → History → History
+replaced due h g = cond due (stored h) g
+
+-- the table after it: emptied, with h as the entry of a site, or as it was
+abbrev pub entered : Bool → Bool → ℕ → List ℕ → Table → Table
+entered opens stores site h t = cond opens emptyTable (cond stores (storedAt t site h) t)
 
 -- the state after it
-abbrev pub after : State → Verdict → State
-after s d =
+abbrev pub after : State → Verdict → List ℕ → State
+after s d h =
     record {
       ballot = d .marks .ballot;
       fast = d .marks .fast;
       signed = d .marks .signed;
-      held = cond (d .signs) (d .history) (s .held);
-      proven = cond (d .proves) (d .history) (s .proven);
+      held = replaced (d .signs) h (s .held);
+      proven = replaced (d .proves) h (s .proven);
       certified = d .marks .certified;
       certificate = d .marks .certificate;
-      verified = entered (s .verified) (d .opens) (d .stores) (d .site) (d .history);
+      verified = entered (d .opens) (d .stores) (d .site) h (s .verified);
     }
 
 -- all of it
-abbrev pub settled : ℕ → View → State → Verdict → Reply State
-settled own view s d =
+abbrev pub settled : ℕ → View → State → Ruling → Reply State
+settled own view s o =
     record {
-      answer = d .answer;
-      state = after s d;
-      sending = sendsIf (not (eqb (d .kind) 0)) (frameOf own view d (s .held) (s .proven));
+      answer = o .verdict .answer;
+      state = after s (o .verdict) (o .history);
+      sending = sendingOf own view (o .verdict) (o .history) (heldOf s) (provenOf s);
     }

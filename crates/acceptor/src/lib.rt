@@ -1,12 +1,13 @@
 // The acceptor: it takes ballots, holds a history, and proves one that a quorum of sites verify.
-ghost use mathlib.Core.Bool.{cond};
 ghost use mathlib.Core.Path.{_≡_};
-ghost use Prim.Native.Nat.{_≤_};
-ghost use lib.ListN.{length};
+ghost use Prim.Native.Nat.{min, _≤_};
+ghost use lib.ListN.{length, take};
 ghost use Rattle.roster.specs.Sites.{maskTo};
+ghost use Rattle.history.specs.Words.{validStored};
+ghost use Rattle.table.specs.Table.{tableOf};
+ghost use Rattle.site.specs.Reply.{sends};
 ghost use Rattle.acceptor.specs.Acceptor as spec;
 ghost use Rattle.acceptor.specs.Verdict as verdict;
-use frame::Frame;
 use history::History;
 use refusal::Answer;
 use refusal::Refusal;
@@ -43,16 +44,32 @@ pub struct Outcome {
 }
 
 // What the state keeps beside its histories and its table.
-struct Marks {
-    ballot: Ballot,
-    fast: u8,
-    signed: u8,
-    certified: Ballot,
-    certificate: u16,
+pub struct Marks {
+    pub ballot: Ballot,
+    pub fast: u8,
+    pub signed: u8,
+    pub certified: Ballot,
+    pub certificate: u16,
 }
 
-// What is decided of a line before the new state is made: the answer; the marks after it; whether the table is emptied; whether the history becomes
-// held, proven, and the entry of a site; and the kind of the frame that goes out, 0 for none.
+// What a call in place gives: the answer, how many bytes of the buffer are to be sent, and the marks after it.
+pub struct Settled {
+    pub answer: Answer,
+    pub sent: usize,
+    pub marks: Marks,
+}
+
+// The small fields of a frame.
+struct Heading {
+    kind: u8,
+    sender: u8,
+    view: View,
+    ballot: Ballot,
+    n: u8,
+}
+
+// What is decided of a line before the state is changed: the answer; the marks after it; whether the table is emptied; whether the history becomes
+// held, proven, and the entry of a site; how many words that history has; and the kind of the frame that goes out, 0 for none.
 struct Verdict {
     answer: Answer,
     marks: Marks,
@@ -61,7 +78,7 @@ struct Verdict {
     proves: bool,
     stores: bool,
     site: u8,
-    history: History,
+    count: usize,
     kind: u8,
 }
 
@@ -98,7 +115,7 @@ fn note(ballot: Ballot, fast: u8, signed: u8, certified: Ballot, certificate: u1
 
 // The verdict that changes nothing.
 fn idle(marks: Marks, answer: Answer) -> Verdict
-    ensures { λ d. ⌜ d ≡ verdict.idle marks answer ⌝ }
+    ensures { λ d. ⌜ d ≡ verdict.idle marks answer .verdict ⌝ }
 {
     Verdict {
         answer,
@@ -108,17 +125,14 @@ fn idle(marks: Marks, answer: Answer) -> Verdict
         proves: false,
         stores: false,
         site: 0,
-        history: History {
-            count: 0,
-            words: [0u64; 32],
-        },
+        count: 0,
         kind: 0,
     }
 }
 
 // The verdict that refuses.
 fn against(marks: Marks, e: Refusal) -> Verdict
-    ensures { λ d. ⌜ d ≡ verdict.against marks e ⌝ }
+    ensures { λ d. ⌜ d ≡ verdict.against marks e .verdict ⌝ }
 {
     idle(marks, Answer::Refused(e))
 }
@@ -132,7 +146,7 @@ fn outsider(r: Roster, site: u8, view: View) -> bool
 
 // The verdict that takes a ballot: what was signed and verified before is forgotten, and a frame of this kind goes out.
 fn take(marks: Marks, ballot: Ballot, fast: u8, kind: u8) -> Verdict
-    ensures { λ d. ⌜ d ≡ verdict.opening marks ballot fast kind ⌝ }
+    ensures { λ d. ⌜ d ≡ verdict.opening marks ballot fast kind .verdict ⌝ }
 {
     let certified = marks.certified;
     Verdict {
@@ -149,31 +163,21 @@ fn take(marks: Marks, ballot: Ballot, fast: u8, kind: u8) -> Verdict
         proves: false,
         stores: false,
         site: 0,
-        history: History {
-            count: 0,
-            words: [0u64; 32],
-        },
+        count: 0,
         kind,
     }
 }
 
 // The verdict on a P1A or FAST, which opens a ballot and answers a frame of this kind.
-fn start(
-    r: Roster,
-    view: View,
-    marks: Marks,
-    site: u8,
-    asked: View,
-    ballot: Ballot,
-    fast: u8,
-    kind: u8,
-) -> Verdict
-    ensures { λ d. ⌜ d ≡ verdict.onOpening r view marks site asked ballot fast kind ⌝ }
+fn start(r: Roster, view: View, marks: Marks, e: Heading, fast: u8, kind: u8) -> Verdict
+    ensures { λ d. ⌜ d ≡ verdict.onOpening r view marks e fast kind .verdict ⌝ }
 {
-    let unknown = outsider(r, site, asked);
+    let asked = e.view;
+    let unknown = outsider(r, e.sender, asked);
     if unknown {
         return against(marks, Refusal::Sender);
     }
+    let ballot = e.ballot;
     let present = marks.ballot;
     let stale = !((asked.0 == view.0) & (present.0 < ballot.0));
     if stale {
@@ -184,7 +188,7 @@ fn start(
 
 // The verdict that stores h as a site's entry, and leaves these marks.
 fn put(marks: Marks, site: u8, h: &[u64], signs: bool, proves: bool, kind: u8) -> Verdict
-    ensures { λ d. ⌜ d ≡ verdict.putting marks site (now (h .entry)) signs proves kind ⌝ }
+    ensures { λ d. ⌜ d ≡ verdict.putting marks site (now (h .entry)) signs proves kind .verdict ⌝ }
 {
     Verdict {
         answer: Answer::Accepted,
@@ -194,14 +198,14 @@ fn put(marks: Marks, site: u8, h: &[u64], signs: bool, proves: bool, kind: u8) -
         proves,
         stores: true,
         site,
-        history: History::of(h),
+        count: h.len(),
         kind,
     }
 }
 
 // The verdict that signs h: it becomes held and the own entry, and a VERIFY goes out.
 fn sign(own: u8, marks: Marks, h: &[u64]) -> Verdict
-    ensures { λ d. ⌜ d ≡ verdict.signing own marks (now (h .entry)) ⌝ }
+    ensures { λ d. ⌜ d ≡ verdict.signing own marks (now (h .entry)) .verdict ⌝ }
 {
     let ballot = marks.ballot;
     let certified = marks.certified;
@@ -215,9 +219,9 @@ fn sign(own: u8, marks: Marks, h: &[u64]) -> Verdict
     put(after, own, h, true, false, VERIFY)
 }
 
-// The verdict on what is held with the new commands: it is signed in canonical order, if it is not too long. Leaves `work` reordered.
+// The verdict on what is held with the new commands: it is signed in canonical order, if it is not too long. Leaves `work` in that order.
 fn arrange(own: u8, marks: Marks, work: &mut [u64]) -> Verdict
-    ensures { λ d. ⌜ d ≡ verdict.onUnion own marks (now (work .entry)) ⌝ }
+    ensures { λ d. ⌜ (d ≡ verdict.onUnion own marks (now (work .entry)) .verdict) × (now (work .exit) ≡ verdict.arranged (now (work .entry))) ⌝ }
 {
     let full = History::LIMIT < work.len();
     if full {
@@ -227,60 +231,78 @@ fn arrange(own: u8, marks: Marks, work: &mut [u64]) -> Verdict
     sign(own, marks, work)
 }
 
-// The verdict on commands of which some are new: they are appended to what is held.
-fn grow(own: u8, marks: Marks, held: &[u64], h: &[u64]) -> Verdict
-    requires { ⌜ (length (now held) ≤ 32) × (length (now h) ≤ 32) ⌝ }
-    ensures { λ d. ⌜ d ≡ verdict.onGrowth own marks (now (held .entry)) (now (h .entry)) ⌝ }
+// Writes what is held over the first n words of buf, with those of them that are new appended, and answers how many words that is.
+fn unite(held: &[u64], n: usize, buf: &mut [u64]) -> usize
+    requires { ⌜ (length (now held) ≤ 32) × (n ≤ 32) × (length (now buf) ≡ 64) ⌝ }
+    ensures { λ k. ⌜ verdict.United (now (held .entry)) (take n (now (buf .entry))) k (now (buf .exit)) ⌝ }
 {
-    let mut work = [0u64; history::WORK];
-    history::fill(&mut work, held);
-    let m = held.len();
-    let n = merge::append(&mut work, m, h);
-    arrange(own, marks, &mut work[..n])
+    let mut more = [0u64; 32];
+    history::fill(&mut more, &buf[..n]);
+    history::fill(buf, held);
+    merge::append(buf, held.len(), &more[..n])
 }
 
-// The verdict on commands that are proposed, against the held history and the proven one.
-fn lengthen(own: u8, marks: Marks, held: &[u64], proven: &[u64], h: &[u64]) -> Verdict
-    requires { ⌜ (length (now held) ≤ 32) × (length (now h) ≤ 32) ⌝ }
-    ensures { λ d. ⌜ d ≡ verdict.onCommands own marks (now (held .entry)) (now (proven .entry)) (now (h .entry)) ⌝ }
+// The verdict on the n commands of buf, of which some are new: they are appended to what is held.
+fn grow(own: u8, marks: Marks, held: &[u64], n: usize, buf: &mut [u64]) -> Verdict
+    requires { ⌜ (length (now held) ≤ 32) × (n ≤ 32) × (length (now buf) ≡ 64) ⌝ }
+    ensures { λ d. ⌜ verdict.ruled d (now (buf .exit)) ≡ verdict.onGrowth own marks (now (held .entry)) (take n (now (buf .entry))) ⌝ }
+{
+    let k = unite(held, n, buf);
+    arrange(own, marks, &mut buf[..k])
+}
+
+// The verdict on the n commands of buf that are proposed, against the held history and the proven one.
+fn lengthen(
+    own: u8,
+    marks: Marks,
+    held: &[u64],
+    proven: &[u64],
+    n: usize,
+    buf: &mut [u64],
+) -> Verdict
+    requires { ⌜ (length (now held) ≤ 32) × (n ≤ 32) × (length (now buf) ≡ 64) ⌝ }
+    ensures { λ d. ⌜ verdict.ruled d (now (buf .exit)) ≡ verdict.onCommands own marks (now (held .entry)) (now (proven .entry)) (take n (now (buf .entry))) ⌝ }
 {
     let ahead = history::extends(held, proven);
     if !ahead {
         return against(marks, Refusal::Behind);
     }
-    let reused = merge::reuses(held, h);
+    let reused = merge::reuses(held, &buf[..n]);
     if reused {
         return against(marks, Refusal::Reused);
     }
-    let nothing = merge::nothing_new(held, h);
+    let nothing = merge::nothing_new(held, &buf[..n]);
     if nothing {
         return against(marks, Refusal::Nothing);
     }
-    grow(own, marks, held, h)
+    grow(own, marks, held, n, buf)
 }
 
-// The verdict on a PROPOSE: sender, ballot, commands and requests, and then the histories.
+// The verdict on a PROPOSE with the words of buf: sender, ballot, commands and requests, and then the histories.
 fn propose(
     own: u8,
     marks: Marks,
     held: &[u64],
     proven: &[u64],
-    site: u8,
-    ballot: Ballot,
-    h: &[u64],
+    e: Heading,
+    buf: &mut [u64],
 ) -> Verdict
-    requires { ⌜ (length (now held) ≤ 32) × (length (now h) ≤ 32) ⌝ }
-    ensures { λ d. ⌜ d ≡ verdict.onProposal own marks (now (held .entry)) (now (proven .entry)) site ballot (now (h .entry)) ⌝ }
+    requires { ⌜ (length (now held) ≤ 32) × (e .n ≤ 32) × (length (now buf) ≡ 64) ⌝ }
+    ensures { λ d. ⌜ verdict.ruled d (now (buf .exit)) ≡ verdict.onProposal own marks (now (held .entry)) (now (proven .entry)) e (verdict.carriedIn e (now (buf .entry))) ⌝ }
 {
+    let site = e.sender;
     let nobody = site == 0;
     if nobody {
         return against(marks, Refusal::Sender);
     }
+    let ballot = e.ballot;
     let present = marks.ballot;
     let stale = !((ballot.0 == present.0) & !(marks.fast == 0));
     if stale {
         return against(marks, Refusal::Stale);
     }
+    let n = e.n as usize;
+    let h = &buf[..n];
     let wrong = !command::all_valid(h) | !command::all_by(site, h);
     if wrong {
         return against(marks, Refusal::Command);
@@ -289,7 +311,7 @@ fn propose(
     if improper {
         return against(marks, Refusal::History);
     }
-    lengthen(own, marks, held, proven, h)
+    lengthen(own, marks, held, proven, n, buf)
 }
 
 // Whether h does not extend the proven history or, if one was signed in this ballot, the held one.
@@ -311,7 +333,7 @@ fn behind(signed: u8, held: &[u64], proven: &[u64], h: &[u64]) -> bool
 // The verdict on the history of a P2A: its commands, whether it is a history in canonical order, and what it must extend.
 fn obey(own: u8, marks: Marks, held: &[u64], proven: &[u64], h: &[u64]) -> Verdict
     requires { ⌜ length (now h) ≤ 32 ⌝ }
-    ensures { λ d. ⌜ d ≡ verdict.onOrdered own marks (now (held .entry)) (now (proven .entry)) (now (h .entry)) ⌝ }
+    ensures { λ d. ⌜ d ≡ verdict.onOrdered own marks (now (held .entry)) (now (proven .entry)) (now (h .entry)) .verdict ⌝ }
 {
     let valid = command::all_valid(h);
     if !valid {
@@ -336,18 +358,18 @@ fn order(
     marks: Marks,
     held: &[u64],
     proven: &[u64],
-    site: u8,
-    asked: View,
-    ballot: Ballot,
+    e: Heading,
     h: &[u64],
 ) -> Verdict
     requires { ⌜ length (now h) ≤ 32 ⌝ }
-    ensures { λ d. ⌜ d ≡ verdict.onOrder r own view marks (now (held .entry)) (now (proven .entry)) site asked ballot (now (h .entry)) ⌝ }
+    ensures { λ d. ⌜ d ≡ verdict.onOrder r own view marks (now (held .entry)) (now (proven .entry)) e (now (h .entry)) .verdict ⌝ }
 {
-    let unknown = outsider(r, site, asked);
+    let asked = e.view;
+    let unknown = outsider(r, e.sender, asked);
     if unknown {
         return against(marks, Refusal::Sender);
     }
+    let ballot = e.ballot;
     let present = marks.ballot;
     let stale = !((asked.0 == view.0) & ((ballot.0 == present.0) & (marks.fast == 0)));
     if stale {
@@ -418,7 +440,7 @@ fn keep<'a>(
     h: &[u64],
 ) -> Verdict
     requires { ⌜ (r .n ≤ 16) × (length (now h) ≤ 32) ⌝ }
-    ensures { λ d. ⌜ d ≡ verdict.onStore r marks (now (proven .entry)) (now (words .entry)) (now (counts .entry)) site (now (h .entry)) ⌝ }
+    ensures { λ d. ⌜ d ≡ verdict.onStore r marks (now (proven .entry)) (now (words .entry)) (now (counts .entry)) site (now (h .entry)) .verdict ⌝ }
 {
     let mask = certify(words, counts, r.n, site, h);
     let proves = convinces(r, marks, proven, mask, h);
@@ -447,7 +469,7 @@ fn enter<'a>(
     h: &[u64],
 ) -> Verdict
     requires { ⌜ (r .n ≤ 16) × (length (now h) ≤ 32) ⌝ }
-    ensures { λ d. ⌜ d ≡ verdict.onEntry r marks (now (proven .entry)) (now (words .entry)) (now (counts .entry)) site (now (h .entry)) ⌝ }
+    ensures { λ d. ⌜ d ≡ verdict.onEntry r marks (now (proven .entry)) (now (words .entry)) (now (counts .entry)) site (now (h .entry)) .verdict ⌝ }
 {
     let entry = table::row(words, counts, site as usize);
     let newer = history::extends(h, entry);
@@ -469,18 +491,19 @@ fn verify<'a>(
     proven: &[u64],
     words: &'a [u64],
     counts: &'a [u8],
-    site: u8,
-    asked: View,
-    ballot: Ballot,
+    e: Heading,
     h: &[u64],
 ) -> Verdict
     requires { ⌜ (r .n ≤ 16) × (length (now h) ≤ 32) ⌝ }
-    ensures { λ d. ⌜ d ≡ verdict.onVerify r view marks (now (proven .entry)) (now (words .entry)) (now (counts .entry)) site asked ballot (now (h .entry)) ⌝ }
+    ensures { λ d. ⌜ d ≡ verdict.onVerify r view marks (now (proven .entry)) (now (words .entry)) (now (counts .entry)) e (now (h .entry)) .verdict ⌝ }
 {
+    let site = e.sender;
     let unknown = r.n <= site;
     if unknown {
         return against(marks, Refusal::Sender);
     }
+    let asked = e.view;
+    let ballot = e.ballot;
     let present = marks.ballot;
     let stale = !((asked.0 == view.0) & (ballot.0 == present.0));
     if stale {
@@ -497,7 +520,7 @@ fn verify<'a>(
     enter(r, marks, proven, words, counts, site, h)
 }
 
-// The verdict on a frame that carries a history, by its kind.
+// The verdict on a frame with the words of buf that carries a history, by its kind. A PROPOSE leaves in buf what it signs.
 fn weigh<'a>(
     r: Roster,
     own: u8,
@@ -507,47 +530,26 @@ fn weigh<'a>(
     proven: &[u64],
     words: &'a [u64],
     counts: &'a [u8],
-    m: Frame,
+    e: Heading,
+    buf: &mut [u64],
 ) -> Verdict
-    requires { ⌜ verdict.Sizes r (now held) (spec.carried m) ⌝ }
-    ensures { λ d. ⌜ d ≡ verdict.onCarried r own view marks (now (held .entry)) (now (proven .entry)) (now (words .entry)) (now (counts .entry)) m ⌝ }
+    requires { ⌜ verdict.Sizes r (now held) (e .n) (now buf) ⌝ }
+    ensures { λ d. ⌜ verdict.ruled d (now (buf .exit)) ≡ verdict.onCarried r own view marks (now (held .entry)) (now (proven .entry)) (now (words .entry)) (now (counts .entry)) e (now (buf .entry)) ⌝ }
 {
-    let all: &[u64] = &m.words;
-    let h = history::first(all, m.n as usize);
-    let proposal = m.kind == PROPOSE;
+    let proposal = e.kind == PROPOSE;
     if proposal {
-        return propose(own, marks, held, proven, m.sender, m.ballot, h);
+        return propose(own, marks, held, proven, e, buf);
     }
-    let ordered = m.kind == P2A;
+    let n = e.n as usize;
+    let h = &buf[..n];
+    let ordered = e.kind == P2A;
     if ordered {
-        return order(
-            r,
-            own,
-            view,
-            marks,
-            held,
-            proven,
-            m.sender,
-            m.view,
-            m.ballot,
-            h,
-        );
+        return order(r, own, view, marks, held, proven, e, h);
     }
-    verify(
-        r,
-        view,
-        marks,
-        proven,
-        words,
-        counts,
-        m.sender,
-        m.view,
-        m.ballot,
-        h,
-    )
+    verify(r, view, marks, proven, words, counts, e, h)
 }
 
-// The verdict on a frame, by its kind.
+// The verdict on a frame with the words of buf, by its kind.
 fn hear<'a>(
     r: Roster,
     own: u8,
@@ -557,20 +559,33 @@ fn hear<'a>(
     proven: &[u64],
     words: &'a [u64],
     counts: &'a [u8],
-    m: Frame,
+    e: Heading,
+    buf: &mut [u64],
 ) -> Verdict
-    requires { ⌜ verdict.Sizes r (now held) (spec.carried m) ⌝ }
-    ensures { λ d. ⌜ d ≡ verdict.onFrame r own view marks (now (held .entry)) (now (proven .entry)) (now (words .entry)) (now (counts .entry)) m ⌝ }
+    requires { ⌜ verdict.Sizes r (now held) (e .n) (now buf) ⌝ }
+    ensures { λ d. ⌜ verdict.ruled d (now (buf .exit)) ≡ verdict.onFrame r own view marks (now (held .entry)) (now (proven .entry)) (now (words .entry)) (now (counts .entry)) e (now (buf .entry)) ⌝ }
 {
-    let classic = m.kind == P1A;
+    let classic = e.kind == P1A;
     if classic {
-        return start(r, view, marks, m.sender, m.view, m.ballot, 0, P1B);
+        return start(r, view, marks, e, 0, P1B);
     }
-    let fast = m.kind == FAST;
+    let fast = e.kind == FAST;
     if fast {
-        return start(r, view, marks, m.sender, m.view, m.ballot, 1, 0);
+        return start(r, view, marks, e, 1, 0);
     }
-    weigh(r, own, view, marks, held, proven, words, counts, m)
+    weigh(r, own, view, marks, held, proven, words, counts, e, buf)
+}
+
+// Whether a history of so many words may be lent: at most 32 commands, and valid.
+fn sound(count: u8, words: &[u64]) -> bool
+    ensures { λ b. ⌜ b ≡ validStored (verdict.historyOf count (now (words .entry))) ⌝ }
+{
+    let n = count as usize;
+    let fits = n <= History::LIMIT;
+    if !fits {
+        return false;
+    }
+    history::valid(history::first(words, n))
 }
 
 // Whether the roster, the own number, the room, the record or the state is one that no step takes.
@@ -580,124 +595,262 @@ fn config<'a>(
     room: usize,
     v: ViewRecord,
     marks: Marks,
-    held: History,
-    proven: History,
-    words: &'a [u64],
+    held_count: u8,
+    held: &[u64],
+    proven_count: u8,
+    proven: &[u64],
     counts: &'a [u8],
+    words: &'a [u64],
 ) -> bool
-    ensures { λ b. ⌜ b ≡ verdict.config r own room v marks held proven (now (words .entry)) (now (counts .entry)) ⌝ }
+    ensures { λ b. ⌜ b ≡ spec.config r own room v (verdict.stateOf marks «held_count» (now (held .entry)) «proven_count» (now (proven .entry)) (now (counts .entry)) (now (words .entry))) ⌝ }
 {
     !(site::seated(r, own, room)
         & (v.is_valid(r.n)
-            & (held.is_valid()
-                & (proven.is_valid()
+            & (sound(held_count, held)
+                & (sound(proven_count, proven)
                     & (!roster::beyond(marks.certificate, r.n)
                         & table::rows_valid(words, counts, r.n))))))
 }
 
-// The verdict on a line, where there is so much room.
+// The verdict on a line in a state that will do. The history that it speaks of is left at the front of buf.
+fn receive<'a>(
+    r: Roster,
+    own: u8,
+    view: View,
+    marks: Marks,
+    held: &[u64],
+    proven: &[u64],
+    words: &'a [u64],
+    counts: &'a [u8],
+    line: &[u8],
+    buf: &mut [u64],
+) -> Verdict
+    requires { ⌜ (r .n ≤ 16) × (length (now held) ≤ 32) × (length (now buf) ≡ 64) ⌝ }
+    ensures { λ d. ⌜ verdict.ruled d (now (buf .exit)) ≡ verdict.onReading r own view marks (now (held .entry)) (now (proven .entry)) (now (words .entry)) (now (counts .entry)) (now (line .entry)) ⌝ }
+{
+    let reading = frame::read(line, TAKEN);
+    let found = reading.found;
+    if !found {
+        return against(marks, Refusal::Form);
+    }
+    let all: &[u64] = &reading.frame.words;
+    history::fill(buf, all);
+    let asked = reading.frame.view;
+    let ballot = reading.frame.ballot;
+    let e = Heading {
+        kind: reading.frame.kind,
+        sender: reading.frame.sender,
+        view: asked,
+        ballot,
+        n: reading.frame.n,
+    };
+    hear(r, own, view, marks, held, proven, words, counts, e, buf)
+}
+
+// The verdict on a line, where there is so much room. The history that it speaks of is left at the front of buf.
 fn judge<'a>(
     r: Roster,
     own: u8,
     room: usize,
     v: ViewRecord,
     marks: Marks,
-    held: History,
-    proven: History,
-    words: &'a [u64],
+    held_count: u8,
+    held: &[u64],
+    proven_count: u8,
+    proven: &[u64],
     counts: &'a [u8],
+    words: &'a [u64],
     line: &[u8],
+    buf: &mut [u64],
 ) -> Verdict
-    ensures { λ d. ⌜ d ≡ verdict.onLine r own room v marks held proven (now (words .entry)) (now (counts .entry)) (now (line .entry)) ⌝ }
+    requires { ⌜ length (now buf) ≡ 64 ⌝ }
+    ensures { λ d. ⌜ verdict.ruled d (now (buf .exit)) ≡ verdict.onLine r own room v (verdict.stateOf marks «held_count» (now (held .entry)) «proven_count» (now (proven .entry)) (now (counts .entry)) (now (words .entry))) (now (line .entry)) ⌝ }
 {
-    let unfit = config(r, own, room, v, marks, held, proven, words, counts);
+    let unfit = config(
+        r,
+        own,
+        room,
+        v,
+        marks,
+        held_count,
+        held,
+        proven_count,
+        proven,
+        counts,
+        words,
+    );
     if unfit {
         return against(marks, Refusal::Config);
     }
-    let reading = frame::read(line, TAKEN);
-    let found = reading.found;
-    if !found {
-        return against(marks, Refusal::Form);
-    }
-    let ours: &[u64] = &held.words;
-    let theirs: &[u64] = &proven.words;
-    let h = history::first(ours, held.count as usize);
-    let g = history::first(theirs, proven.count as usize);
-    hear(r, own, v.view, marks, h, g, words, counts, reading.frame)
+    let h = history::first(held, held_count as usize);
+    let g = history::first(proven, proven_count as usize);
+    receive(r, own, v.view, marks, h, g, words, counts, line, buf)
 }
 
-// The P1B that reports what is proven and what is held.
-fn report(own: u8, marks: Marks, held: History, proven: History) -> Frame
-    ensures { λ m. ⌜ m ≡ verdict.report own marks held proven ⌝ }
+// Sends the P1B that reports what is proven and what is held.
+fn report<'a>(own: u8, marks: Marks, held: &'a [u64], proven: &'a [u64], out: &mut [u8]) -> usize
+    ensures { λ k. ⌜ verdict.Handed (sends (verdict.report own marks (now (held .entry)) (now (proven .entry)))) k (now (out .entry)) (now (out .exit)) ⌝ }
 {
-    let ours: &[u64] = &held.words;
-    let theirs: &[u64] = &proven.words;
-    let h = history::first(ours, held.count as usize);
-    let g = history::first(theirs, proven.count as usize);
-    site::message(
+    let m = site::message(
         P1B,
         own,
         View(0),
         marks.ballot,
         marks.certified,
         marks.certificate,
-        g,
-        h,
-    )
+        proven,
+        held,
+    );
+    site::hand_over(true, m, out)
 }
 
-// A frame of this kind for one history.
-fn notice(kind: u8, own: u8, view: View, ballot: Ballot, mask: u16, history: History) -> Frame
-    ensures { λ m. ⌜ m ≡ verdict.notice kind own view ballot mask history ⌝ }
+// Sends a frame of this kind for one history.
+fn notify(
+    kind: u8,
+    own: u8,
+    view: View,
+    ballot: Ballot,
+    mask: u16,
+    h: &[u64],
+    out: &mut [u8],
+) -> usize
+    ensures { λ k. ⌜ verdict.Handed (sends (verdict.notice kind own view ballot mask (now (h .entry)))) k (now (out .entry)) (now (out .exit)) ⌝ }
 {
-    let all: &[u64] = &history.words;
-    let h = history::first(all, history.count as usize);
     let none: [u64; 0] = [];
-    site::message(kind, own, view, ballot, Ballot(0), mask, h, &none)
+    let m = site::message(kind, own, view, ballot, Ballot(0), mask, h, &none);
+    site::hand_over(true, m, out)
 }
 
-// The frame that a verdict sends: P1B, VERIFY or P2B.
-fn reply(own: u8, view: View, d: Verdict, held: History, proven: History) -> Frame
-    ensures { λ m. ⌜ m ≡ verdict.frameOf own view d held proven ⌝ }
+// Sends the frame that a verdict on h asks for: P1B, VERIFY, P2B, or none.
+fn reply<'a>(
+    own: u8,
+    view: View,
+    d: Verdict,
+    h: &[u64],
+    held: &'a [u64],
+    proven: &'a [u64],
+    out: &mut [u8],
+) -> usize
+    ensures { λ k. ⌜ verdict.Handed (verdict.sendingOf own view d (now (h .entry)) (now (held .entry)) (now (proven .entry))) k (now (out .entry)) (now (out .exit)) ⌝ }
 {
     let marks = d.marks;
+    let silent = d.kind == 0;
+    if silent {
+        return 0;
+    }
     let opened = d.kind == P1B;
     if opened {
-        return report(own, marks, held, proven);
+        return report(own, marks, held, proven, out);
     }
     let signed = d.kind == VERIFY;
     if signed {
-        return notice(VERIFY, own, view, marks.ballot, 0, d.history);
+        return notify(VERIFY, own, view, marks.ballot, 0, h, out);
     }
-    notice(
-        P2B,
-        own,
-        View(0),
-        marks.ballot,
-        marks.certificate,
-        d.history,
-    )
+    notify(P2B, own, View(0), marks.ballot, marks.certificate, h, out)
 }
 
-// The one history or the other.
-fn either(first: bool, g: History, h: History) -> History
-    ensures { λ k. ⌜ k ≡ cond first g h ⌝ }
+// How many commands are kept of h: all, but at most 32.
+fn count_of(h: &[u64]) -> u8
+    ensures { λ k. ⌜ k ≡ min (length (now (h .entry))) 32 ⌝ }
 {
-    if first { g } else { h }
+    let n = h.len();
+    if n < History::LIMIT { n as u8 } else { 32 }
 }
 
-// The table after a verdict: emptied, with the history as the entry of a site, or as it was.
-fn entered(t: Table, opens: bool, stores: bool, site: u8, history: History) -> Table
-    ensures { λ u. ⌜ u ≡ verdict.entered t opens stores site history ⌝ }
+// Makes h the history of this count and these words, if it is due.
+fn replace(due: bool, h: &[u64], count: &mut u8, words: &mut [u64; 32])
+    ensures { λ r. ⌜ verdict.historyOf (now (count .exit)) (now (words .exit)) ≡ verdict.replaced due (now (h .entry)) (verdict.historyOf (now (count .entry)) (now (words .entry))) ⌝ }
+{
+    if !due {
+        return;
+    }
+    history::fill(words, h);
+    *count = count_of(h);
+}
+
+// Empties the table, makes h the entry of a site, or neither, as a verdict says.
+fn update(
+    opens: bool,
+    stores: bool,
+    site: u8,
+    h: &[u64],
+    counts: &mut [u8; 16],
+    words: &mut [u64; 512],
+)
+    ensures { λ r. ⌜ tableOf (now (words .exit)) (now (counts .exit)) ≡ verdict.entered opens stores site (now (h .entry)) (tableOf (now (words .entry)) (now (counts .entry))) ⌝ }
 {
     if opens {
-        return Table::empty();
+        *counts = [0u8; 16];
+        *words = [0u64; 512];
+        return;
     }
-    if !stores {
-        return t;
+    if stores {
+        table::store(words, counts, site as usize, h);
     }
-    let all: &[u64] = &history.words;
-    t.stored(site as usize, history::first(all, history.count as usize))
+}
+
+// One step in place, on the parts of an acceptor's state: the answer to a line, how much of the buffer is to be sent, and the marks after it. The
+// parts are left as those of the state after it. Any line is answered, in any state.
+pub fn step_in_place(
+    r: Roster,
+    own: u8,
+    v: ViewRecord,
+    marks: Marks,
+    held_count: &mut u8,
+    held: &mut [u64; 32],
+    proven_count: &mut u8,
+    proven: &mut [u64; 32],
+    counts: &mut [u8; 16],
+    words: &mut [u64; 512],
+    line: &[u8],
+    out: &mut [u8],
+) -> Settled
+    ensures { λ o. ⌜ (verdict.outcomeOf o (now («held_count» .exit)) (now (held .exit)) (now («proven_count» .exit)) (now (proven .exit)) (now (counts .exit)) (now (words .exit)) ≡ spec.returned r own v (verdict.stateOf marks (now («held_count» .entry)) (now (held .entry)) (now («proven_count» .entry)) (now (proven .entry)) (now (counts .entry)) (now (words .entry))) (now (line .entry)) (now (out .entry))) × (now (out .exit) ≡ spec.output r own v (verdict.stateOf marks (now («held_count» .entry)) (now (held .entry)) (now («proven_count» .entry)) (now (proven .entry)) (now (counts .entry)) (now (words .entry))) (now (line .entry)) (now (out .entry))) ⌝ }
+{
+    let mut buf = [0u64; 64];
+    let room = out.len();
+    let n = *held_count;
+    let m = *proven_count;
+    let ours: &[u64] = held;
+    let theirs: &[u64] = proven;
+    let tallies: &[u8] = counts;
+    let rows: &[u64] = words;
+    let d = judge(
+        r,
+        own,
+        room,
+        v,
+        marks,
+        n,
+        ours,
+        m,
+        theirs,
+        tallies,
+        rows,
+        line,
+        &mut buf,
+    );
+    let all: &[u64] = &buf;
+    let h = history::first(all, d.count);
+    let sent = reply(
+        own,
+        v.view,
+        d,
+        h,
+        history::first(ours, n as usize),
+        history::first(theirs, m as usize),
+        out,
+    );
+    replace(d.signs, h, held_count, held);
+    replace(d.proves, h, proven_count, proven);
+    update(d.opens, d.stores, d.site, h, counts, words);
+    let answer = d.answer;
+    let marks = d.marks;
+    Settled {
+        answer,
+        sent,
+        marks,
+    }
 }
 
 // One step: the answer to a line, how much of the buffer is to be sent, and the state after it. Any line is answered, in any state.
@@ -705,39 +858,47 @@ pub fn step(r: Roster, own: u8, v: ViewRecord, s: State, line: &[u8], out: &mut 
     ensures { λ o. ⌜ (o ≡ spec.returned r own v s (now (line .entry)) (now (out .entry))) × (now (out .exit) ≡ spec.output r own v s (now (line .entry)) (now (out .entry))) ⌝ }
 {
     let before = note(s.ballot, s.fast, s.signed, s.certified, s.certificate);
-    let rows: &[u64] = &s.verified.words;
-    let counts: &[u8] = &s.verified.counts;
-    let room = out.len();
-    let d = judge(
+    let mut held_count = s.held.count;
+    let mut held = s.held.words;
+    let mut proven_count = s.proven.count;
+    let mut proven = s.proven.words;
+    let mut counts = s.verified.counts;
+    let mut words = s.verified.words;
+    let o = step_in_place(
         r,
         own,
-        room,
         v,
         before,
-        s.held,
-        s.proven,
-        rows,
-        counts,
+        &mut held_count,
+        &mut held,
+        &mut proven_count,
+        &mut proven,
+        &mut counts,
+        &mut words,
         line,
+        out,
     );
-    let m = reply(own, v.view, d, s.held, s.proven);
-    let sent = site::hand_over(!(d.kind == 0), m, out);
-    let answer = d.answer;
-    let marks = d.marks;
-    let ballot = marks.ballot;
-    let certified = marks.certified;
+    let answer = o.answer;
+    let ballot = o.marks.ballot;
+    let certified = o.marks.certified;
     Outcome {
         answer,
-        sent,
+        sent: o.sent,
         state: State {
             ballot,
-            fast: marks.fast,
-            signed: marks.signed,
-            held: either(d.signs, d.history, s.held),
-            proven: either(d.proves, d.history, s.proven),
+            fast: o.marks.fast,
+            signed: o.marks.signed,
+            held: History {
+                count: held_count,
+                words: held,
+            },
+            proven: History {
+                count: proven_count,
+                words: proven,
+            },
             certified,
-            certificate: marks.certificate,
-            verified: entered(s.verified, d.opens, d.stores, d.site, d.history),
+            certificate: o.marks.certificate,
+            verified: Table { counts, words },
         },
     }
 }

@@ -12,11 +12,11 @@ seated-requires c κs = search needs
 is-valid-requires : tie.Need-is-valid-requires
 is-valid-requires c κs = search needs
 
-is-valid-requires-2 : tie.Need-is-valid-requires-2
-is-valid-requires-2 c κs = search needs
+sound-requires : tie.Need-sound-requires
+sound-requires c κs = search needs
 
-is-valid-requires-3 : tie.Need-is-valid-requires-3
-is-valid-requires-3 c κs = search needs
+sound-requires-2 : tie.Need-sound-requires-2
+sound-requires-2 c κs = search needs
 
 beyond-requires : tie.Need-beyond-requires
 beyond-requires c κs = search needs
@@ -29,11 +29,11 @@ unfolding config validTable
 returns c =
     let seated-call = c .before .before .before .before .before .seated in
     let is-valid-call = c .before .before .before .before .is-valid in
-    let is-valid2-call = c .before .before .before .is-valid2 in
-    let is-valid3-call = c .before .before .is-valid3 in
+    let sound-call = c .before .before .before .sound in
+    let sound2-call = c .before .before .sound2 in
     let beyond-call = c .before .beyond in
     let rows-valid-call = c .rows-valid in
-    rw (seated-call .ensures, is-valid-call .ensures, is-valid2-call .ensures, is-valid3-call .ensures, beyond-call .ensures, rows-valid-call .ensures)
+    rw (seated-call .ensures, is-valid-call .ensures, sound-call .ensures, sound2-call .ensures, beyond-call .ensures, rows-valid-call .ensures)
 
 pub config-spec : {M : Type 1} → statement M
 config-spec =
@@ -41,8 +41,8 @@ config-spec =
     (tie.spec
     seated-requires
     is-valid-requires
-    is-valid-requires-2
-    is-valid-requires-3
+    sound-requires
+    sound-requires-2
     beyond-requires
     rows-valid-requires
     returns)
