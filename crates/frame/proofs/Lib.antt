@@ -3,4 +3,5 @@ mod Entries
 mod Turns
 mod Runs
 mod Lines
+mod Bare
 mod Frames

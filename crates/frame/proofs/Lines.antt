@@ -101,6 +101,10 @@ module _ (l h : List ℕ) (inv : Headed l h) where
   unfolding held frameOf framed
   held-is = ap (λ (xs : List ℕ). getD xs 6 0 + getD xs 7 0) (sym (inv .spelled-values))
 
+  pub counted : count (frameOf l) ≡ getD h 6 0 + getD h 7 0
+  unfolding held
+  counted = held-is
+
   size-is : lineLength (count (frameOf l)) ≡ 36 + 16 * held + 1
   unfolding total
   size-is = omega (arith, held-is)
@@ -175,7 +179,7 @@ module _ (l h : List ℕ) (inv : Headed l h) where
             omega (arith, length-numbers (commands (count (frameOf l))) (drop 36 l), length-replicate (count (frameOf l)) commandWidth, same) in
             ap₂ (λ (s t : List ℕ). s ++ t) read (drop-zeros k 64 ∙ ap zeros left)
 
-        body-found : good ≡ true → readingWith (headingOf h) (ys ++ drop (getD h 6 0 + getD h 7 0) (replicate 64 0)) ≡ bodyReading l
+        pub body-found : good ≡ true → readingWith (headingOf h) (ys ++ drop (getD h 6 0 + getD h 7 0) (replicate 64 0)) ≡ bodyReading l
         unfolding bodyReading frameOf framed zeros last held
         body-found g =
             ap (λ (f : Frame). record { found = true; frame = f }) (ap₂ withValues (inv .spelled-values) (words-are g))

@@ -68,6 +68,10 @@ nothing = record { found = false; frame = blank }
 unfoldable pub readingOf : List ℕ → ℕ → Reading
 readingOf l kinds = cond (isLine l && bit kinds (frameOf l .kind)) (record { found = true; frame = frameOf l }) nothing
 
+-- the same, of a line with no commands
+unfoldable pub bareReading : List ℕ → ℕ → Reading
+bareReading l kinds = cond (eqb (count (readingOf l kinds .frame)) 0) (readingOf l kinds) nothing
+
 -- a frame whose heading and words are apart, and what is read so
 abbrev pub frameWith : Heading → List ℕ → Frame
 frameWith h ws =

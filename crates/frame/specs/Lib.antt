@@ -7,4 +7,5 @@ pub mod Leaves
 pub mod Tests
 pub mod HexLaws
 pub mod FormatLaws
+pub mod BareLaws
 pub mod InverseLaws

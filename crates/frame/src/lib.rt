@@ -377,6 +377,29 @@ pub fn read_into(line: &[u8], kinds: u16, words: &mut [u64; 64]) -> Heading
     no_heading()
 }
 
+// Reads a line of one of the kinds that has no commands.
+pub fn read_bare(line: &[u8], kinds: u16) -> Heading
+    ensures { λ h. ⌜ format.readingWith h (replicate 64 0) ≡ format.bareReading (now (line .entry)) kinds ⌝ }
+{
+    let values: &[u16] = &VALUES;
+    let read = read_head(values, line, kinds);
+    if !read.good {
+        return no_heading();
+    }
+    let head = read.values;
+    let bare = (head[6] == 0) & (head[7] == 0);
+    if !bare {
+        return no_heading();
+    }
+    if line.len() != SHORTEST {
+        return no_heading();
+    }
+    if line[HEADER] != FEED {
+        return no_heading();
+    }
+    heading_of(head)
+}
+
 // The frame of a line, if these characters are a line, of one of the kinds (kind k is bit k).
 pub fn read(line: &[u8], kinds: u16) -> Reading
     ensures { λ r. ⌜ r ≡ format.readingOf (now (line .entry)) kinds ⌝ }
