@@ -10,7 +10,7 @@ use Rattle.command.specs.Command.{proposer, serial, sameRequest}
 use Rattle.command.specs.CommandLaws.{same-fields, and-left, and-right}
 use Rattle.history.specs.History.{present, repeated}
 use Rattle.history.specs.Marks.{mark, marked}
-use Rattle.history.proofs.Scans.{drop-next}
+use Rattle.words.specs.WordsLaws.{drop-next}
 
 -- a command whose mark is not set is not among those whose marks are
 pub unmarked-absent : (s : List Bool) (c : ℕ) (h : List ℕ) → marked s h ≡ true → getD s (mark c) false ≡ false → present c h ≡ false

@@ -9,7 +9,7 @@ use lib.ListN.{length, take, drop, getD, length-append, length-drop}
 use lib.Seq.{drop-drop, getD-drop, take-take, take-at, drop-at, length-take-le, append-snoc, take-nil}
 use Rattle.history.specs.Front.{rotated}
 use Rattle.history.specs.FrontLaws.{rotated-last}
-use Rattle.history.proofs.Scans.{take-next}
+use Rattle.words.specs.WordsLaws.{take-next}
 
 -- the list after `rotate(&mut h[to..from + 1])`
 abbrev pub moved : List ℕ → ℕ → ℕ → List ℕ

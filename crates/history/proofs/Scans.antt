@@ -10,18 +10,11 @@ use borrow.Author.Tests.{eq-eqb, ne-eqb, lt-ltb, le-ltb}
 use lib.Dec.{eqb, ltb}
 use lib.ListN.{length, take, drop, getD, set, drop-of-length-le, length-drop, length-set}
 use lib.Seq.{take-length, drop-cons, take-suc, take-all, length-take-le, append-snoc, take-suc-set, drop-set-lt, getD-drop, getD-take, drop-drop}
-use Rattle.history.specs.Words.{cleared}
+use Rattle.words.specs.WordsLaws.{drop-next, take-next}
 use Rattle.command.specs.Command.{conflict, sameRequest}
 use Rattle.history.specs.History.{present, repeated, canonical, equal, isCanonical}
 use Rattle.history.specs.Insertion.{place, clear, insert, arrange, stays, walk}
 use Rattle.history.specs.Front.{offAt, shifted, rotated, fronted}
-
--- the list from i on: the element at i, and the list from i + 1 on
-pub drop-next : (h : List ℕ) (i : ℕ) → i < length h → drop i h ≡ getD h i 0 ∷ drop (i + 1) h
-drop-next h i p = rw add-one (drop-cons h i 0 p)
-
-pub take-next : (h : List ℕ) (i : ℕ) → i < length h → take (i + 1) h ≡ take i h ++ getD h i 0 ∷ []
-take-next h i p = rw add-one (take-suc h i 0 p)
 
 -- the part of a list from a on, as a slice `&h[a..]` is made of it
 pub tail-part : (h : List ℕ) (a : ℕ) → take (length h - a) (drop a h) ≡ drop a h
@@ -54,28 +47,6 @@ repeated-more h i p e = rw (drop-next h i p, e)
 pub repeated-end : (h : List ℕ) (i : ℕ) → length h ≤ i → repeated (drop i h) ≡ false
 unfolding repeated
 repeated-end h i p = rw (drop-of-length-le h p)
-
--- ---- equality
-
-pub equal-sizes : (g h : List ℕ) → (length g ≡ length h → ⊥) → equal g h ≡ false
-unfolding equal
-equal-sizes [] [] n = absurd (n refl)
-equal-sizes [] (d ∷ h) n = refl
-equal-sizes (c ∷ g) [] n = refl
-equal-sizes (c ∷ g) (d ∷ h) n = rw (equal-sizes g h (λ e. n (ap suc e)), and-false (eqb c d))
-
-module _ (g h : List ℕ) (i : ℕ) (p : i < length g) (q : i < length h) where
-  pub equal-stop : (getD g i 0 ≡ getD h i 0 → ⊥) → equal (drop i g) (drop i h) ≡ false
-  unfolding equal
-  equal-stop n = rw (drop-next g i p, drop-next h i q, ne-eqb _ _ n)
-
-  pub equal-more : getD g i 0 ≡ getD h i 0 → equal (drop i g) (drop i h) ≡ equal (drop (i + 1) g) (drop (i + 1) h)
-  unfolding equal
-  equal-more e = rw (drop-next g i p, drop-next h i q, eq-eqb _ _ e)
-
-pub equal-end : (g h : List ℕ) (i : ℕ) → length g ≤ i → length h ≤ i → equal (drop i g) (drop i h) ≡ true
-unfolding equal
-equal-end g h i p q = rw (drop-of-length-le g p, drop-of-length-le h q)
 
 -- ---- walking left
 
@@ -130,7 +101,7 @@ pub find-end : (c : ℕ) (h : List ℕ) (i : ℕ) → length h ≤ i → i ≡ i
 unfolding offAt
 find-end c h i p = rw (drop-of-length-le h p) (omega arith)
 
--- ---- rotating, and filling
+-- ---- rotating
 
 pub shifted-more : (s : List ℕ) (k c : ℕ) → k < length s → take (k + 1) (set s k c) ++ shifted (getD s k 0) (drop (k + 1) (set s k c)) ≡ take k s ++ shifted c (drop k s)
 unfolding shifted
@@ -139,25 +110,6 @@ shifted-more s k c p = rw (drop-next s k p, add-one, take-suc-set s k c p, drop-
 pub shifted-end : (s : List ℕ) (k c : ℕ) → length s ≤ k → take k s ++ shifted c (drop k s) ≡ s
 unfolding shifted
 shifted-end s k c p = rw (drop-of-length-le s p, take-all k s p) (append-nil s)
-
--- the first words are the same after a copy of one more, and in two lists after one more that is the same
-pub copied-more : (s l : List ℕ) (k : ℕ) → k < length s → k < length l → take k s ≡ take k l → take (k + 1) (set s k (getD l k 0)) ≡ take (k + 1) l
-copied-more s l k p q e = rw (add-one, take-suc-set s k _ p, take-suc l k 0 q, e)
-
-pub common-more : (h g : List ℕ) (k : ℕ) → k < length h → k < length g → getD h k 0 ≡ getD g k 0 → take k h ≡ take k g → take (k + 1) h ≡ take (k + 1) g
-common-more h g k p q c e = rw (add-one, take-suc h k 0 p, take-suc g k 0 q, c, e)
-
-pub cleared-more : (s : List ℕ) (k : ℕ) → k < length s → cleared (set s k 0) (k + 1) ≡ cleared s k
-unfolding cleared
-cleared-more s k p =
-    let e : length s - k ≡ suc (length s - (k + 1)) = omega arith in
-    rw (length-set, e, add-one, take-suc-set s k 0 p, append-snoc)
-
-pub cleared-end : (s : List ℕ) (k : ℕ) → length s ≤ k → cleared s k ≡ s
-unfolding cleared
-cleared-end s k p =
-    let e : length s - k ≡ 0 = omega arith in
-    rw (e, take-all k s p) (append-nil s)
 
 pub rotated-nil : (s : List ℕ) → length s ≡ 0 → rotated s ≡ s
 unfolding rotated shifted

@@ -12,7 +12,7 @@ use Rattle.history.specs.History.{comesOff, without, extends}
 use Rattle.history.specs.Insertion.{clear, place, insert, arrange, Bounded, none, more}
 use Rattle.history.specs.Front.{rotated, fronted, offAt}
 use Rattle.history.specs.FrontLaws.{Standing, off-at-standing, off-at-absent}
-use Rattle.history.proofs.Scans.{drop-next, take-next}
+use Rattle.words.specs.WordsLaws.{drop-next, take-next}
 use Rattle.history.proofs.Moves.{moved, moved-take, moved-drop, moved-head, moved-rest, moved-length}
 
 -- ---- putting in order

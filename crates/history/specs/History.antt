@@ -7,6 +7,7 @@ use Prim.Native.Nat.{ℕ, zero, suc, min}
 use lib.Dec.{eqb}
 use lib.ListN.{length}
 use Rattle.command.specs.Command.{conflict, sameRequest, allValid}
+unfoldable pub use Rattle.words.specs.Words.{equal}
 
 -- whether some command of h has c's proposer and serial
 unfoldable pub present : ℕ → List ℕ → Bool
@@ -78,13 +79,6 @@ ordered (suc n) (c ∷ h) =
 -- "The canonical order takes, again and again, the smallest remaining command (as eight bytes) that has no conflicting command still before it."
 unfoldable pub canonical : List ℕ → List ℕ
 canonical h = ordered (length h) h
-
--- whether two lists are equal
-unfoldable pub equal : List ℕ → List ℕ → Bool
-equal [] [] = true
-equal [] (d ∷ h) = false
-equal (c ∷ g) [] = false
-equal (c ∷ g) (d ∷ h) = eqb c d && equal g h
 
 -- whether a list is in canonical order
 unfoldable pub isCanonical : List ℕ → Bool

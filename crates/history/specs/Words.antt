@@ -1,24 +1,16 @@
 -- Histories in arrays and by value. The words after a history's commands mean nothing; `fill` and `History::of` write zeros there.
 use mathlib.Core.Bool.{Bool, _&&_}
-use mathlib.Core.List.{List, [], _∷_, _++_}
-use Prim.Native.Nat.{ℕ, zero, suc, _-_, min}
+use mathlib.Core.List.{List}
+use Prim.Native.Nat.{ℕ, min}
 use lib.Dec.{leb}
-use lib.ListN.{length, getD, take, drop, replicate}
+use lib.ListN.{length, take}
+unfoldable pub use Rattle.words.specs.Words.{padded}
 use Rattle.history.specs.declared.History.{History}
 use Rattle.history.specs.History.{validHistory, extends}
 
 -- "A history holds at most 32 commands."
 abbrev pub limit : ℕ
 limit = 32
-
--- the first n words of a list, with zeros where it has none
-unfoldable pub padded : ℕ → List ℕ → List ℕ
-padded zero l = []
-padded (suc n) l = getD l 0 0 ∷ padded n (drop 1 l)
-
--- a list with zeros from n on
-unfoldable pub cleared : List ℕ → ℕ → List ℕ
-cleared l n = take n l ++ replicate (length l - n) 0
 
 -- the commands of a history by value: its first `count` words
 abbrev pub commands : History → List ℕ

@@ -8,6 +8,9 @@ ghost use Rattle.history.specs.Insertion as insertion;
 ghost use Rattle.history.specs.Front as front;
 ghost use Rattle.history.specs.Words as words;
 ghost use Rattle.history.specs.Marks as marks;
+pub use words::fill;
+pub use words::first;
+pub use words::same;
 
 // How many marks the test for a repeated proposer and serial has, and up to how many commands it does without them.
 const MARKS: usize = 256;
@@ -127,30 +130,6 @@ pub fn improper(h: &[u64]) -> bool
         return true;
     }
     h.len() == 0
-}
-
-// The first n words, or all of them if there are fewer.
-pub fn first<'a>(words: &'a [u64], n: usize) -> &'a [u64]
-    ensures { λ r. ⌜ now r ≡ take n (now (words .entry)) ⌝ }
-{
-    if n <= words.len() { &words[..n] } else { words }
-}
-
-// Whether two lists are equal.
-pub fn same(g: &[u64], h: &[u64]) -> bool
-    ensures { λ r. ⌜ r ≡ spec.equal (now (g .entry)) (now (h .entry)) ⌝ }
-{
-    if g.len() != h.len() {
-        return false;
-    }
-    let mut i: usize = 0;
-    while i < g.len() {
-        if g[i] != h[i] {
-            return false;
-        }
-        i += 1;
-    }
-    true
 }
 
 // The place of the command at n among those before it, found by walking left until one conflicts.
@@ -274,38 +253,6 @@ pub fn bring(work: &mut [u64], g: &[u64]) -> bool
     true
 }
 
-// Copies src to the front of dst.
-fn copy(dst: &mut [u64], src: &[u64])
-    requires { ⌜ length (now src) ≤ length (now dst) ⌝ }
-    ensures { λ r. ⌜ (length (now (dst .exit)) ≡ length (now (dst .entry))) × (take (length (now (src .entry))) (now (dst .exit)) ≡ now (src .entry)) ⌝ }
-{
-    let mut i: usize = 0;
-    while i < src.len() {
-        dst[i] = src[i];
-        i += 1;
-    }
-}
-
-// Writes zeros from `from` on.
-fn clear(dst: &mut [u64], from: usize)
-    ensures { λ r. ⌜ now (dst .exit) ≡ words.cleared (now (dst .entry)) from ⌝ }
-{
-    let mut i = from;
-    while i < dst.len() {
-        dst[i] = 0;
-        i += 1;
-    }
-}
-
-// Fills dst with the words of src, and with zeros where src has no more.
-pub fn fill(dst: &mut [u64], src: &[u64])
-    ensures { λ r. ⌜ now (dst .exit) ≡ words.padded (length (now (dst .entry))) (now (src .entry)) ⌝ }
-{
-    let fit = first(src, dst.len());
-    copy(dst, fit);
-    clear(dst, fit.len());
-}
-
 // The most commands of an extension that is tested: a union of two histories of 32.
 pub const WORK: usize = 64;
 
@@ -314,23 +261,8 @@ fn extends_in(work: &mut [u64], h: &[u64], g: &[u64]) -> bool
     requires { ⌜ length (now work) ≡ length (now h) ⌝ }
     ensures { λ r. ⌜ r ≡ spec.extends (now (h .entry)) (now (g .entry)) ⌝ }
 {
-    copy(work, h);
+    fill(work, h);
     bring(work, g)
-}
-
-// How many first commands of g are the first of h.
-fn common(h: &[u64], g: &[u64]) -> usize
-    requires { ⌜ length (now g) ≤ length (now h) ⌝ }
-    ensures { λ r. ⌜ (r ≤ length (now (g .entry))) × (take r (now (h .entry)) ≡ take r (now (g .entry))) ⌝ }
-{
-    let mut i: usize = 0;
-    while i < g.len() {
-        if h[i] != g[i] {
-            return i;
-        }
-        i += 1;
-    }
-    i
 }
 
 // Whether h extends g, where the first k commands of both are the same.
@@ -354,7 +286,7 @@ pub fn extends(h: &[u64], g: &[u64]) -> bool
     if h.len() < g.len() {
         return false;
     }
-    let k = common(h, g);
+    let k = words::common(h, g);
     if k == g.len() {
         true
     } else {

@@ -1,12 +1,12 @@
--- `history::fill` meets its contract: as many words as fit are copied, and the rest is cleared.
+-- `words::fill` meets its contract: as many words as fit are copied, and the rest is cleared.
 -- Assumes nothing.
 use mathlib.Core.Path.{ap, _∙_}
 use native.Mathlib.Omega.{arith}
 use borrow.Author.Needs.{needs}
 use lib.ListN.{length, length-take}
-use Rattle.history.specs.WordsLaws.{filled}
-use Rattle.history.proofs.fill.Statement.{statement}
-use Rattle.history.proofs.fill.Tie as tie
+use Rattle.words.specs.WordsLaws.{filled}
+use Rattle.words.proofs.fill.Statement.{statement}
+use Rattle.words.proofs.fill.Tie as tie
 
 first-requires : tie.Need-first-requires
 first-requires c κs = search needs

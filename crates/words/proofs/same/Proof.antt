@@ -1,4 +1,4 @@
--- `history::same` meets its contract: lists of two lengths differ, and the loop keeps that the answer for the whole lists is the answer for what is
+-- `words::same` meets its contract: lists of two lengths differ, and the loop keeps that the answer for the whole lists is the answer for what is
 -- left of them.
 -- Assumes nothing.
 use Prim.Native.Nat.{_≤_, _-_}
@@ -6,10 +6,10 @@ use native.Mathlib.Omega.{arith}
 use mathlib.Core.Path.{_≡_, sym, refl, _∙_}
 use borrow.Author.Needs.{needs}
 use lib.ListN.{length, drop}
-use Rattle.history.specs.History.{equal}
-use Rattle.history.proofs.Scans.{equal-sizes, equal-stop, equal-more, equal-end}
-use Rattle.history.proofs.same.Statement.{statement}
-use Rattle.history.proofs.same.Tie as tie
+use Rattle.words.specs.Words.{equal}
+use Rattle.words.proofs.Scans.{equal-sizes, equal-stop, equal-more, equal-end}
+use Rattle.words.proofs.same.Statement.{statement}
+use Rattle.words.proofs.same.Tie as tie
 
 abbrev Inv-loop : tie.InvT-loop
 Inv-loop g h i₀ i = (i ≤ length g) × (length g ≡ length h) × (equal (drop i g) (drop i h) ≡ equal g h)

@@ -1,14 +1,14 @@
--- `history::clear` meets its contract: the loop keeps what the list with zeros from i on is.
+-- `words::clear` meets its contract: the loop keeps what the list with zeros from i on is.
 -- Assumes nothing.
 use Prim.Native.Nat.{_≤_, _-_}
 use native.Mathlib.Omega.{arith}
 use mathlib.Core.Path.{_≡_, refl, sym, _∙_}
 use borrow.Author.Needs.{needs}
 use lib.ListN.{length, length-set}
-use Rattle.history.specs.Words.{cleared}
-use Rattle.history.proofs.Scans.{cleared-more, cleared-end}
-use Rattle.history.proofs.clear.Statement.{statement}
-use Rattle.history.proofs.clear.Tie as tie
+use Rattle.words.specs.Words.{cleared}
+use Rattle.words.proofs.Scans.{cleared-more, cleared-end}
+use Rattle.words.proofs.clear.Statement.{statement}
+use Rattle.words.proofs.clear.Tie as tie
 
 abbrev Inv-loop : tie.InvT-loop
 Inv-loop dst₀ from i₀ dst i = (length dst ≡ length dst₀) × (cleared dst i ≡ cleared dst₀ from)

@@ -1,4 +1,4 @@
--- `history::copy` meets its contract: the loop keeps that the first i words are those of src.
+-- `words::copy` meets its contract: the loop keeps that the first i words are those of src.
 -- Assumes nothing.
 use Prim.Native.Nat.{_≤_, _-_}
 use native.Mathlib.Omega.{arith}
@@ -6,9 +6,9 @@ use mathlib.Core.Path.{_≡_, refl, sym, _∙_, ap}
 use borrow.Author.Needs.{needs}
 use lib.ListN.{length, take, length-set}
 use lib.Seq.{take-length}
-use Rattle.history.proofs.Scans.{copied-more}
-use Rattle.history.proofs.copy.Statement.{statement}
-use Rattle.history.proofs.copy.Tie as tie
+use Rattle.words.proofs.Scans.{copied-more}
+use Rattle.words.proofs.copy.Statement.{statement}
+use Rattle.words.proofs.copy.Tie as tie
 
 abbrev Inv-loop : tie.InvT-loop
 Inv-loop dst₀ src i₀ dst i = (i ≤ length src) × (length dst ≡ length dst₀) × (take i dst ≡ take i src)

@@ -1,11 +1,11 @@
--- `history::first` meets its contract: past its end a list has no more to take.
+-- `words::first` meets its contract: past its end a list has no more to take.
 -- Assumes nothing.
 use mathlib.Core.Path.{sym}
 use native.Mathlib.Omega.{arith}
 use borrow.Author.Needs.{needs}
 use lib.Seq.{length-take-le, take-all}
-use Rattle.history.proofs.first.Statement.{statement}
-use Rattle.history.proofs.first.Tie as tie
+use Rattle.words.proofs.first.Statement.{statement}
+use Rattle.words.proofs.first.Tie as tie
 
 slice-aggregate-result : tie.Need-slice-aggregate-result
 slice-aggregate-result c =
