@@ -54,7 +54,7 @@ pub fn store(words: &mut [u64], counts: &mut [u8], site: usize, h: &[u64])
     history::fill(&mut words[at..at + History::LIMIT], h);
 }
 
-// Whether row `site` is one that lent state may hold, for n sites. A row without a count is empty.
+// Whether row `site` is one that lent state may hold, for n sites. An empty one is, and so is one without a count.
 fn row_valid<'a>(words: &'a [u64], counts: &'a [u8], site: usize, n: u8) -> bool
     ensures { λ r. ⌜ r ≡ spec.validRow n (now (words .entry)) (now (counts .entry)) site ⌝ }
 {
@@ -62,11 +62,14 @@ fn row_valid<'a>(words: &'a [u64], counts: &'a [u8], site: usize, n: u8) -> bool
         return true;
     }
     let count = counts[site] as usize;
+    if count == 0 {
+        return true;
+    }
     if History::LIMIT < count {
         return false;
     }
     if n as usize <= site {
-        return count == 0;
+        return false;
     }
     history::valid(row(words, counts, site))
 }
