@@ -25,10 +25,11 @@ use Rattle.frame.specs.Format.{readingOf, malformed}
 use Rattle.site.specs.declared.ViewRecord.{ViewRecord}
 use Rattle.site.specs.Reply.{Reply, sends, lengthSent, buffer}
 use Rattle.acceptor.specs.declared.State.{State}
+use Rattle.acceptor.specs.declared.Settled.{Settled}
 use Rattle.acceptor.specs.declared.Marks.{Marks}
 use Rattle.acceptor.specs.declared.Verdict.{Verdict}
 use Rattle.acceptor.specs.Acceptor.{taken, received, heldOf, provenOf, config, outcome}
-use Rattle.acceptor.specs.Verdict.{marksOf, historyOf, stateOf, outcomeOf, Ruling, ruled, idle, against, putting, proving, arranged, United, onUnion, agreeing, convinces, onStore, onEntry, headingOf, onFrame, onReading, onLine, Handed, sendingOf, replaced, entered, settled}
+use Rattle.acceptor.specs.Verdict.{marksOf, historyOf, stateOf, outcomeOf, Ruling, ruled, given, idle, against, putting, proving, arranged, United, onUnion, agreeing, convinces, onStore, onEntry, headingOf, onFrame, onReading, onTested, onLine, Handed, sendingOf, replaced, entered, settled}
 use Rattle.acceptor.specs.VerdictLaws.{ruled-kept, kept-union}
 
 -- the code's test of extension, of a list of at most 32 commands
@@ -126,11 +127,10 @@ module _ (r : Roster) (own : ℕ) (view : View) (k : Marks) (held proven words c
         let whole : w ≡ o .frame .words = f ∙ ap (λ (i : ℕ). padded i (o .frame .words)) q ∙ padded-whole (o .frame .words) in
         rw (whole, e) (read-frame (rw e at p))
 
--- a line in a state that CONFIG lets pass: h and g are what is held and what is proven
-pub line-fit : (r : Roster) (own room : ℕ) (v : ViewRecord) (s : State) (line h g : List ℕ) → config r own room v s ≡ false → h ≡ heldOf s → g ≡ provenOf s
-    → onReading r own (v .view) (marksOf s) h g (s .verified .words) (s .verified .counts) line ≡ onLine r own room v s line
-unfolding onLine judged
-line-fit r own room v s line h g e p q = rw (p, q, e)
+-- a line in a state: b is the test of CONFIG, h and g are what is held and what is proven
+pub line-tested : (r : Roster) (own room : ℕ) (v : ViewRecord) (s : State) (line h g : List ℕ) (b : Bool) → b ≡ config r own room v s → h ≡ heldOf s → g ≡ provenOf s
+    → onTested b r own (v .view) (marksOf s) h g (s .verified .words) (s .verified .counts) line ≡ onLine r own room v s line
+line-tested r own room v s line h g b e p q = rw (e, p, q)
 
 -- ---- what is handed over: m is the frame made, n the frame to send
 
@@ -142,13 +142,14 @@ handing m n k out after e p =
 -- ---- a step in place: x is what the line gives, d the verdict on it, w the buffer with its history
 
 module _ (own : ℕ) (view : View) (s : State) (out : List ℕ) (x : Reply State) (d : Verdict) (w : List ℕ) (e : settled own view s (ruled d w) ≡ x) where
-  -- h is that history, g and k what is held and what is proven; then the parts after the step, the length sent and the buffer that is left
-  pub carried-out : (h g k : List ℕ) (i : ℕ) (held : List ℕ) (j : ℕ) (proven counts words : List ℕ) (n : ℕ) (l : List ℕ)
+  -- h is that history, g and k what is held and what is proven; then the parts after the step, the length sent, the buffer that is left, and what is given
+  pub carried-out : (h g k : List ℕ) (i : ℕ) (held : List ℕ) (j : ℕ) (proven counts words : List ℕ) (n : ℕ) (l : List ℕ) (o : Settled)
       → h ≡ take (d .count) w → g ≡ heldOf s → k ≡ provenOf s
       → Handed (sendingOf own view d h g k) n out l
       → historyOf i held ≡ replaced (d .signs) h (s .held)
       → historyOf j proven ≡ replaced (d .proves) h (s .proven)
       → tableOf words counts ≡ entered (d .opens) (d .stores) (d .site) h (s .verified)
-      → (outcomeOf (record { answer = d .answer; sent = n; marks = d .marks }) i held j proven counts words ≡ outcome x out) × (l ≡ buffer (x .sending) out)
-  carried-out h g k i held j proven counts words n l f a b p y z u =
-      (rw (← e, y, z, u, p .size, a, b, f), p .left ∙ rw (← e, a, b, f))
+      → o ≡ given d n
+      → (outcomeOf o i held j proven counts words ≡ outcome x out) × (l ≡ buffer (x .sending) out)
+  carried-out h g k i held j proven counts words n l o f a b p y z u q =
+      (rw (← e, q, y, z, u, p .size, a, b, f), p .left ∙ rw (← e, a, b, f))

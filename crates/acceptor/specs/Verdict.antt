@@ -73,6 +73,10 @@ outcomeOf o n held m proven counts words =
 
 -- ---- the verdicts
 
+-- what a verdict gives where so many bytes are to be sent
+abbrev pub given : Verdict → ℕ → Settled
+given d sent = record { answer = d .answer; sent = sent; marks = d .marks }
+
 -- a verdict, and the history that it speaks of
 pub record Ruling : Type 0 where
   pub verdict : Verdict
@@ -267,10 +271,13 @@ headingOf m = record { kind = m .kind; sender = m .sender; view = m .view; ballo
 abbrev pub carriedIn : Heading → List ℕ → List ℕ
 carriedIn e w = take (e .n) w
 
--- no more than 16 sites, lists of at most 32 commands, and room for a union of two
-pub record Sizes (r : Roster) (held : List ℕ) (n : ℕ) (w : List ℕ) : Type 0 where
+-- no more than 16 sites and 32 commands held; with them, no more than 32 of a frame, and room for a union
+pub record Short (r : Roster) (held : List ℕ) : Type 0 where
   pub few-sites : r .n ≤ 16
   pub short-held : length held ≤ 32
+
+pub record Sizes (r : Roster) (held : List ℕ) (n : ℕ) (w : List ℕ) : Type 0 where
+  pub fit : Short r held
   pub short : n ≤ 32
   pub room : length w ≡ 64
 
@@ -285,16 +292,17 @@ onFrame r own view k held proven words counts e w =
     cond (eqb (e .kind) 1) (onOpening r view k e 0 3)
     (cond (eqb (e .kind) 2) (onOpening r view k e 1 0) (onCarried r own view k held proven words counts e w))
 
--- a line, in a state of these parts, and in any state
+-- a line in a state of these parts: that CONFIG lets pass, where its test is known, and in any state
 unfoldable pub onReading : Roster → ℕ → View → Marks → List ℕ → List ℕ → List ℕ → List ℕ → List ℕ → Ruling
 onReading r own view k held proven words counts line =
     judged (against k) (onFrame r own view k held proven words counts (headingOf (received line)) (received line .words)) (form line gives Form ∷ [])
 
-unfoldable pub onLine : Roster → ℕ → ℕ → ViewRecord → State → List ℕ → Ruling
+abbrev pub onTested : Bool → Roster → ℕ → View → Marks → List ℕ → List ℕ → List ℕ → List ℕ → List ℕ → Ruling
+onTested unfit r own view k held proven words counts line = judged (against k) (onReading r own view k held proven words counts line) (unfit gives Config ∷ [])
+
+abbrev pub onLine : Roster → ℕ → ℕ → ViewRecord → State → List ℕ → Ruling
 onLine r own room v s line =
-    judged (against (marksOf s))
-    (onReading r own (v .view) (marksOf s) (heldOf s) (provenOf s) (s .verified .words) (s .verified .counts) line)
-    (config r own room v s gives Config ∷ [])
+    onTested (config r own room v s) r own (v .view) (marksOf s) (heldOf s) (provenOf s) (s .verified .words) (s .verified .counts) line
 
 -- ---- what a verdict does
 

@@ -36,15 +36,14 @@ use Rattle.acceptor.specs.declared.Heading.{Heading}
 use Rattle.acceptor.specs.declared.Verdict.{Verdict}
 use Rattle.acceptor.specs.Acceptor as acceptor
 use Rattle.acceptor.specs.Acceptor.{P1A, FAST, PROPOSE, P2A, VERIFY, kindOf, received, form, carried, heldOf, provenOf, notLeader, sameView, sameBallot, behindOf, entryOf, sign, matches, certificateOf, proves, p2b, storing, store, heard, accepted, frameRules, step, config}
-use Rattle.acceptor.specs.Verdict.{marksOf, Ruling, ruled, idle, against, putting, signing, proving, opening, outsider, openingRules, onOpening, unionRules, arranged, commandRules, proposalRules, orderRules, orderedRules, onOrdered, headingOf, onCarried, entryRules, verifyRules, fitting, onUnion, onGrowth, onCommands, onProposal, lags, onOrder, agrees, agreeing, convinces, onStore, onEntry, onVerify, onFrame, onReading, onLine, settled}
+use Rattle.acceptor.specs.Verdict.{marksOf, Ruling, ruled, idle, against, putting, signing, proving, opening, outsider, openingRules, onOpening, unionRules, arranged, commandRules, proposalRules, orderRules, orderedRules, onOrdered, headingOf, onCarried, entryRules, verifyRules, fitting, onUnion, onGrowth, onCommands, onProposal, lags, onOrder, agrees, agreeing, convinces, onStore, onEntry, onVerify, onFrame, onReading, onLine, settled, Short}
 use Rattle.acceptor.specs.AcceptorLaws.{carried-short}
 
 -- ---- sizes
 
 -- what CONFIG lets pass: at most 16 sites, and at most 32 commands that are held or proven
 pub record Fit (r : Roster) (s : State) : Type 0 where
-  pub few-sites : r .n ≤ 16
-  pub short-held : length (heldOf s) ≤ 32
+  pub short : Short r (heldOf s)
   pub short-proven : length (provenOf s) ≤ 32
 
 pub fit : (r : Roster) (own room : ℕ) (v : ViewRecord) (s : State) → config r own room v s ≡ false → Fit r s
@@ -54,8 +53,10 @@ fit r own room v s e =
     let site = seated-is r own room (and-left (seated r own room) _ good) in
     let lists = and-right (validRecord (r .n) v) _ (and-right (seated r own room) _ good) in
     record {
-      few-sites = valid-figures r (site .roster) .max-sites;
-      short-held = valid-stored-length (s .held) (and-left (validStored (s .held)) _ lists);
+      short = record {
+        few-sites = valid-figures r (site .roster) .max-sites;
+        short-held = valid-stored-length (s .held) (and-left (validStored (s .held)) _ lists);
+      };
       short-proven = valid-stored-length (s .proven) (and-left (validStored (s .proven)) _ (and-right (validStored (s .held)) _ lists));
     }
 
@@ -184,7 +185,7 @@ module _ (r : Roster) (own : ℕ) (v : ViewRecord) (s : State) where
     unfolding onOpening outsider notLeader sameView judged
     heard-classic f =
         settled-judged (opening (marksOf s) (m .ballot) 0 3) _ (openingRules r (v .view) (marksOf s) (headingOf m))
-        (rw (take-all limit (provenOf s) (f .short-proven), take-all limit (heldOf s) (f .short-held)))
+        (rw (take-all limit (provenOf s) (f .short-proven), take-all limit (heldOf s) (f .short .short-held)))
 
     heard-fast : settled own (v .view) s (onOpening r (v .view) (marksOf s) (headingOf m) 1 0) ≡ heard FAST r own v s m
     unfolding onOpening outsider notLeader sameView judged
@@ -240,12 +241,12 @@ module _ (r : Roster) (own : ℕ) (v : ViewRecord) (s : State) where
         go false true c d = heard-fast
         go false false true d = heard-propose
         go false false false true = heard-order p
-        go false false false false = heard-verify p z (f .few-sites)
+        go false false false false = heard-verify p z (f .short .few-sites)
 
   -- ---- a line
 
   pub settled-line : (room : ℕ) (line : List ℕ) → Sized (s .verified) → settled own (v .view) s (onLine r own room v s line) ≡ step r own room v s line
-  unfolding onLine onReading step
+  unfolding onReading step
   settled-line room line z =
       let m = received line in
       let one = onFrame r own (v .view) (marksOf s) (heldOf s) (provenOf s) (s .verified .words) (s .verified .counts) (headingOf m) (m .words) in

@@ -1,4 +1,5 @@
 // The acceptor: it takes ballots, holds a history, and proves one that a quorum of sites verify.
+ghost use mathlib.Core.Bool.{false};
 ghost use mathlib.Core.Path.{_≡_};
 ghost use Prim.Native.Nat.{min, _≤_};
 ghost use lib.ListN.{length, take};
@@ -172,18 +173,15 @@ fn take(marks: Marks, ballot: Ballot, fast: u8, kind: u8) -> Verdict
 fn start(r: Roster, view: View, marks: Marks, e: Heading, fast: u8, kind: u8) -> Verdict
     ensures { λ d. ⌜ d ≡ verdict.onOpening r view marks e fast kind .verdict ⌝ }
 {
-    let asked = e.view;
-    let unknown = outsider(r, e.sender, asked);
+    let unknown = outsider(r, e.sender, e.view);
     if unknown {
         return against(marks, Refusal::Sender);
     }
-    let ballot = e.ballot;
-    let present = marks.ballot;
-    let stale = !((asked.0 == view.0) & (present.0 < ballot.0));
+    let stale = !((e.view.0 == view.0) & (marks.ballot.0 < e.ballot.0));
     if stale {
         return against(marks, Refusal::Stale);
     }
-    take(marks, ballot, fast, kind)
+    take(marks, e.ballot, fast, kind)
 }
 
 // The verdict that stores h as a site's entry, and leaves these marks.
@@ -290,20 +288,17 @@ fn propose(
     requires { ⌜ (length (now held) ≤ 32) × (e .n ≤ 32) × (length (now buf) ≡ 64) ⌝ }
     ensures { λ d. ⌜ verdict.ruled d (now (buf .exit)) ≡ verdict.onProposal own marks (now (held .entry)) (now (proven .entry)) e (verdict.carriedIn e (now (buf .entry))) ⌝ }
 {
-    let site = e.sender;
-    let nobody = site == 0;
+    let nobody = e.sender == 0;
     if nobody {
         return against(marks, Refusal::Sender);
     }
-    let ballot = e.ballot;
-    let present = marks.ballot;
-    let stale = !((ballot.0 == present.0) & !(marks.fast == 0));
+    let stale = !((e.ballot.0 == marks.ballot.0) & !(marks.fast == 0));
     if stale {
         return against(marks, Refusal::Stale);
     }
     let n = e.n as usize;
     let h = &buf[..n];
-    let wrong = !command::all_valid(h) | !command::all_by(site, h);
+    let wrong = !command::all_valid(h) | !command::all_by(e.sender, h);
     if wrong {
         return against(marks, Refusal::Command);
     }
@@ -364,14 +359,12 @@ fn order(
     requires { ⌜ length (now h) ≤ 32 ⌝ }
     ensures { λ d. ⌜ d ≡ verdict.onOrder r own view marks (now (held .entry)) (now (proven .entry)) e (now (h .entry)) .verdict ⌝ }
 {
-    let asked = e.view;
-    let unknown = outsider(r, e.sender, asked);
+    let unknown = outsider(r, e.sender, e.view);
     if unknown {
         return against(marks, Refusal::Sender);
     }
-    let ballot = e.ballot;
-    let present = marks.ballot;
-    let stale = !((asked.0 == view.0) & ((ballot.0 == present.0) & (marks.fast == 0)));
+    let present = e.ballot.0 == marks.ballot.0;
+    let stale = !((e.view.0 == view.0) & (present & (marks.fast == 0)));
     if stale {
         return against(marks, Refusal::Stale);
     }
@@ -497,15 +490,11 @@ fn verify<'a>(
     requires { ⌜ (r .n ≤ 16) × (length (now h) ≤ 32) ⌝ }
     ensures { λ d. ⌜ d ≡ verdict.onVerify r view marks (now (proven .entry)) (now (words .entry)) (now (counts .entry)) e (now (h .entry)) .verdict ⌝ }
 {
-    let site = e.sender;
-    let unknown = r.n <= site;
+    let unknown = r.n <= e.sender;
     if unknown {
         return against(marks, Refusal::Sender);
     }
-    let asked = e.view;
-    let ballot = e.ballot;
-    let present = marks.ballot;
-    let stale = !((asked.0 == view.0) & (ballot.0 == present.0));
+    let stale = !((e.view.0 == view.0) & (e.ballot.0 == marks.ballot.0));
     if stale {
         return against(marks, Refusal::Stale);
     }
@@ -517,7 +506,7 @@ fn verify<'a>(
     if improper {
         return against(marks, Refusal::History);
     }
-    enter(r, marks, proven, words, counts, site, h)
+    enter(r, marks, proven, words, counts, e.sender, h)
 }
 
 // The verdict on a frame with the words of buf that carries a history, by its kind. A PROPOSE leaves in buf what it signs.
@@ -625,7 +614,7 @@ fn receive<'a>(
     line: &[u8],
     buf: &mut [u64],
 ) -> Verdict
-    requires { ⌜ (r .n ≤ 16) × (length (now held) ≤ 32) × (length (now buf) ≡ 64) ⌝ }
+    requires { ⌜ (verdict.Short r (now held)) × (length (now buf) ≡ 64) ⌝ }
     ensures { λ d. ⌜ verdict.ruled d (now (buf .exit)) ≡ verdict.onReading r own view marks (now (held .entry)) (now (proven .entry)) (now (words .entry)) (now (counts .entry)) (now (line .entry)) ⌝ }
 {
     let reading = frame::read(line, TAKEN);
@@ -647,44 +636,27 @@ fn receive<'a>(
     hear(r, own, view, marks, held, proven, words, counts, e, buf)
 }
 
-// The verdict on a line, where there is so much room. The history that it speaks of is left at the front of buf.
+// The verdict on a line, where CONFIG applies or not. The history that it speaks of is left at the front of buf.
 fn judge<'a>(
+    unfit: bool,
     r: Roster,
     own: u8,
-    room: usize,
-    v: ViewRecord,
+    view: View,
     marks: Marks,
-    held_count: u8,
     held: &[u64],
-    proven_count: u8,
     proven: &[u64],
-    counts: &'a [u8],
     words: &'a [u64],
+    counts: &'a [u8],
     line: &[u8],
     buf: &mut [u64],
 ) -> Verdict
-    requires { ⌜ length (now buf) ≡ 64 ⌝ }
-    ensures { λ d. ⌜ verdict.ruled d (now (buf .exit)) ≡ verdict.onLine r own room v (verdict.stateOf marks «held_count» (now (held .entry)) «proven_count» (now (proven .entry)) (now (counts .entry)) (now (words .entry))) (now (line .entry)) ⌝ }
+    requires { ⌜ (unfit ≡ false → verdict.Short r (now held)) × (length (now buf) ≡ 64) ⌝ }
+    ensures { λ d. ⌜ verdict.ruled d (now (buf .exit)) ≡ verdict.onTested unfit r own view marks (now (held .entry)) (now (proven .entry)) (now (words .entry)) (now (counts .entry)) (now (line .entry)) ⌝ }
 {
-    let unfit = config(
-        r,
-        own,
-        room,
-        v,
-        marks,
-        held_count,
-        held,
-        proven_count,
-        proven,
-        counts,
-        words,
-    );
     if unfit {
         return against(marks, Refusal::Config);
     }
-    let h = history::first(held, held_count as usize);
-    let g = history::first(proven, proven_count as usize);
-    receive(r, own, v.view, marks, h, g, words, counts, line, buf)
+    receive(r, own, view, marks, held, proven, words, counts, line, buf)
 }
 
 // Sends the P1B that reports what is proven and what is held.
@@ -789,6 +761,19 @@ fn update(
     }
 }
 
+// What a verdict gives where so many bytes are to be sent.
+fn finish(d: Verdict, sent: usize) -> Settled
+    ensures { λ o. ⌜ o ≡ verdict.given d sent ⌝ }
+{
+    let answer = d.answer;
+    let marks = d.marks;
+    Settled {
+        answer,
+        sent,
+        marks,
+    }
+}
+
 // One step in place, on the parts of an acceptor's state: the answer to a line, how much of the buffer is to be sent, and the marks after it. The
 // parts are left as those of the state after it. Any line is answered, in any state.
 pub fn step_in_place(
@@ -808,48 +793,56 @@ pub fn step_in_place(
     ensures { λ o. ⌜ (verdict.outcomeOf o (now («held_count» .exit)) (now (held .exit)) (now («proven_count» .exit)) (now (proven .exit)) (now (counts .exit)) (now (words .exit)) ≡ spec.returned r own v (verdict.stateOf marks (now («held_count» .entry)) (now (held .entry)) (now («proven_count» .entry)) (now (proven .entry)) (now (counts .entry)) (now (words .entry))) (now (line .entry)) (now (out .entry))) × (now (out .exit) ≡ spec.output r own v (verdict.stateOf marks (now («held_count» .entry)) (now (held .entry)) (now («proven_count» .entry)) (now (proven .entry)) (now (counts .entry)) (now (words .entry))) (now (line .entry)) (now (out .entry))) ⌝ }
 {
     let mut buf = [0u64; 64];
-    let room = out.len();
     let n = *held_count;
     let m = *proven_count;
     let ours: &[u64] = held;
     let theirs: &[u64] = proven;
-    let tallies: &[u8] = counts;
+    let sums: &[u8] = counts;
     let rows: &[u64] = words;
-    let d = judge(
-        r,
-        own,
-        room,
-        v,
-        marks,
-        n,
-        ours,
-        m,
-        theirs,
-        tallies,
-        rows,
-        line,
-        &mut buf,
-    );
+    let room = out.len();
+    let unfit = config(r, own, room, v, marks, n, ours, m, theirs, sums, rows);
+    let g = history::first(ours, n as usize);
+    let k = history::first(theirs, m as usize);
+    let view = v.view;
+    let d = judge(unfit, r, own, view, marks, g, k, rows, sums, line, &mut buf);
     let all: &[u64] = &buf;
     let h = history::first(all, d.count);
-    let sent = reply(
-        own,
-        v.view,
-        d,
-        h,
-        history::first(ours, n as usize),
-        history::first(theirs, m as usize),
-        out,
-    );
+    let sent = reply(own, view, d, h, g, k, out);
     replace(d.signs, h, held_count, held);
     replace(d.proves, h, proven_count, proven);
     update(d.opens, d.stores, d.site, h, counts, words);
-    let answer = d.answer;
-    let marks = d.marks;
-    Settled {
-        answer,
-        sent,
-        marks,
+    finish(d, sent)
+}
+
+// The state of these parts.
+fn state_of(
+    marks: Marks,
+    held_count: u8,
+    held: [u64; 32],
+    proven_count: u8,
+    proven: [u64; 32],
+    counts: [u8; 16],
+    words: [u64; 512],
+) -> State
+    ensures { λ s. ⌜ s ≡ verdict.stateOf marks «held_count» held «proven_count» proven counts words ⌝ }
+{
+    let ballot = marks.ballot;
+    let certified = marks.certified;
+    State {
+        ballot,
+        fast: marks.fast,
+        signed: marks.signed,
+        held: History {
+            count: held_count,
+            words: held,
+        },
+        proven: History {
+            count: proven_count,
+            words: proven,
+        },
+        certified,
+        certificate: marks.certificate,
+        verified: Table { counts, words },
     }
 }
 
@@ -858,9 +851,9 @@ pub fn step(r: Roster, own: u8, v: ViewRecord, s: State, line: &[u8], out: &mut 
     ensures { λ o. ⌜ (o ≡ spec.returned r own v s (now (line .entry)) (now (out .entry))) × (now (out .exit) ≡ spec.output r own v s (now (line .entry)) (now (out .entry))) ⌝ }
 {
     let before = note(s.ballot, s.fast, s.signed, s.certified, s.certificate);
-    let mut held_count = s.held.count;
+    let mut n = s.held.count;
     let mut held = s.held.words;
-    let mut proven_count = s.proven.count;
+    let mut m = s.proven.count;
     let mut proven = s.proven.words;
     let mut counts = s.verified.counts;
     let mut words = s.verified.words;
@@ -869,9 +862,9 @@ pub fn step(r: Roster, own: u8, v: ViewRecord, s: State, line: &[u8], out: &mut 
         own,
         v,
         before,
-        &mut held_count,
+        &mut n,
         &mut held,
-        &mut proven_count,
+        &mut m,
         &mut proven,
         &mut counts,
         &mut words,
@@ -879,27 +872,10 @@ pub fn step(r: Roster, own: u8, v: ViewRecord, s: State, line: &[u8], out: &mut 
         out,
     );
     let answer = o.answer;
-    let ballot = o.marks.ballot;
-    let certified = o.marks.certified;
     Outcome {
         answer,
         sent: o.sent,
-        state: State {
-            ballot,
-            fast: o.marks.fast,
-            signed: o.marks.signed,
-            held: History {
-                count: held_count,
-                words: held,
-            },
-            proven: History {
-                count: proven_count,
-                words: proven,
-            },
-            certified,
-            certificate: o.marks.certificate,
-            verified: Table { counts, words },
-        },
+        state: state_of(o.marks, n, held, m, proven, counts, words),
     }
 }
 

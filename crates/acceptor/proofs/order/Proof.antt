@@ -27,8 +27,8 @@ against-requires-2 c κs = search needs
 returns-2 : tie.Need-returns-2
 unfolding judged onOrder
 returns-2 c =
-    let outsider-call = c .before .before .before .before .before .before .before .before .before .before .outsider in
-    let if1 = c .before .before .before .before .before .before .before .before .before .if1 in
+    let outsider-call = c .before .before .before .before .before .before .before .before .outsider in
+    let if1 = c .before .before .before .before .before .before .before .if1 in
     let if2 = c .before .if2 in
     let against2-call = c .against2 in
     rw (sym (outsider-call .ensures) ∙ if1 .left, if2 .taken) (against2-call .ensures)
@@ -39,8 +39,8 @@ obey-requires c κs = search needs
 returns-3 : tie.Need-returns-3
 unfolding judged onOrder
 returns-3 c =
-    let outsider-call = c .before .before .before .before .before .before .before .before .before .before .outsider in
-    let if1 = c .before .before .before .before .before .before .before .before .before .if1 in
+    let outsider-call = c .before .before .before .before .before .before .before .before .outsider in
+    let if1 = c .before .before .before .before .before .before .before .if1 in
     let if2 = c .before .if2 in
     let obey-call = c .obey in
     rw (sym (outsider-call .ensures) ∙ if1 .left, if2 .left) (obey-call .ensures)

@@ -18,7 +18,7 @@ returns : tie.Need-returns
 unfolding judged onProposal
 returns c =
     let if1 = c .before .if1 in
-    let given = c .before .before .before .before .before .args in
+    let given = c .before .before .before .before .before .before .args in
     let against-call = c .against in
     rw (if1 .taken) (refusing (given .buf .now) (against-call .ensures))
 
@@ -28,9 +28,9 @@ against-requires-2 c κs = search needs
 returns-2 : tie.Need-returns-2
 unfolding judged onProposal
 returns-2 c =
-    let if1 = c .before .before .before .before .before .before .before .if1 in
+    let if1 = c .before .before .before .before .before .if1 in
     let if2 = c .before .if2 in
-    let given = c .before .before .before .before .before .before .before .before .before .before .before .args in
+    let given = c .before .before .before .before .before .before .before .before .before .before .args in
     let against2-call = c .against2 in
     rw (if1 .left, if2 .taken) (refusing (given .buf .now) (against2-call .ensures))
 
@@ -58,12 +58,12 @@ same-length c = search needs
 returns-3 : tie.Need-returns-3
 unfolding judged onProposal wrong
 returns-3 c =
-    let if1 = c .before .before .before .before .before .before .before .before .before .before .before .before .if1 in
+    let if1 = c .before .before .before .before .before .before .before .before .before .before .if1 in
     let if2 = c .before .before .before .before .before .before .if2 in
     let all-valid-call = c .before .before .before .all-valid in
     let all-by-call = c .before .before .all-by in
     let if3 = c .before .if3 in
-    let given = c .before .before .before .before .before .before .before .before .before .before .before .before .before .before .before .before .args in
+    let given = c .before .before .before .before .before .before .before .before .before .before .before .before .before .before .before .args in
     let against3-call = c .against3 in
     rw (if1 .left, if2 .left, ← all-valid-call .ensures, ← all-by-call .ensures, if3 .taken) (refusing (given .buf .now) (against3-call .ensures))
 
@@ -79,14 +79,14 @@ same-length-2 c = search needs
 returns-4 : tie.Need-returns-4
 unfolding judged onProposal wrong
 returns-4 c =
-    let if1 = c .before .before .before .before .before .before .before .before .before .before .before .before .before .before .if1 in
+    let if1 = c .before .before .before .before .before .before .before .before .before .before .before .before .if1 in
     let if2 = c .before .before .before .before .before .before .before .before .if2 in
     let all-valid-call = c .before .before .before .before .before .all-valid in
     let all-by-call = c .before .before .before .before .all-by in
     let if3 = c .before .before .before .if3 in
     let repeated-call = c .before .before .repeated in
     let if4 = c .before .if4 in
-    let given = c .before .before .before .before .before .before .before .before .before .before .before .before .before .before .before .before .before .before .args in
+    let given = c .before .before .before .before .before .before .before .before .before .before .before .before .before .before .before .before .before .args in
     let against4-call = c .against4 in
     rw (if1 .left, if2 .left, ← all-valid-call .ensures, ← all-by-call .ensures, if3 .left, ← repeated-call .ensures, if4 .taken) (refusing (given .buf .now) (against4-call .ensures))
 
@@ -99,7 +99,7 @@ same-length-3 c = search needs
 returns-5 : tie.Need-returns-5
 unfolding judged onProposal wrong
 returns-5 c =
-    let if1 = c .before .before .before .before .before .before .before .before .before .before .before .before .before .before .before .before .before .if1 in
+    let if1 = c .before .before .before .before .before .before .before .before .before .before .before .before .before .before .before .if1 in
     let if2 = c .before .before .before .before .before .before .before .before .before .before .before .if2 in
     let all-valid-call = c .before .before .before .before .before .before .before .before .all-valid in
     let all-by-call = c .before .before .before .before .before .before .before .all-by in

@@ -36,10 +36,9 @@ hear-requires c κs =
     let given = c .before .before .before .before .before .before .before .before .before .before .before .before .before .before .before .before .before .before .args in
     let fill-call = c .before .before .before .before .before .fill in
     record {
-      few-sites = sizes .0;
-      short-held = sizes .1;
+      fit = sizes .0;
       short = rw (read-call .ensures) (read-n (given .line .now) taken);
-      room = rw (fill-call .ensures, length-padded) (sizes .2);
+      room = rw (fill-call .ensures, length-padded) (sizes .1);
     }
 
 same-length : tie.Need-same-length
@@ -54,7 +53,7 @@ returns-2 c =
     let fill-call = c .before .before .before .before .before .before .before .before .fill in
     let sizes = c .before .before .before .before .before .before .before .before .before .before .before .before .before .before .before .before .before .before .before .before .before .pre in
     let all2-call = c .before .before .before .before .before .before .before .before .before .before .all2 in
-    hear-call .ensures ∙ line-frame (given .r) (given .own) (given .view) (given .marks) (given .held .now) (given .proven .now) (given .words .now) (given .counts .now) (given .line .now) (read-call .result) (read-call .ensures) (not-false _ (if1 .left)) (length (given .buf .now)) _ (fill-call .ensures) (omega (arith, sizes .2, all2-call .given))
+    hear-call .ensures ∙ line-frame (given .r) (given .own) (given .view) (given .marks) (given .held .now) (given .proven .now) (given .words .now) (given .counts .now) (given .line .now) (read-call .result) (read-call .ensures) (not-false _ (if1 .left)) (length (given .buf .now)) _ (fill-call .ensures) (omega (arith, sizes .1, all2-call .given))
 
 pub receive-spec : {M : Type 1} → statement M
 receive-spec =

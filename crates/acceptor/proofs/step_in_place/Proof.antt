@@ -1,30 +1,38 @@
 -- `acceptor::step_in_place` meets its contract: it sends the frame that the verdict names, and leaves the parts that it asks for.
 -- Assumes nothing.
-use mathlib.Core.Path.{ap, _∙_}
+use mathlib.Core.Path.{sym, ap, _∙_}
 use denote.Ref.{now}
 use native.Mathlib.Omega.{arith}
 use lib.ListN.{length}
 use Rattle.acceptor.specs.Verdict.{stateOf, settled}
-use Rattle.acceptor.specs.VerdictLaws.{settled-line}
-use Rattle.acceptor.proofs.Tests.{carried-out}
+use Rattle.acceptor.specs.VerdictLaws.{fit, settled-line}
+use Rattle.acceptor.proofs.Tests.{line-tested, carried-out}
 use borrow.Author.Needs.{needs}
 use Rattle.acceptor.proofs.step_in_place.Statement.{statement}
 use Rattle.acceptor.proofs.step_in_place.Tie as tie
 
-slice-aggregate-judge : tie.Need-slice-aggregate-judge
-slice-aggregate-judge c = search needs
-
-judge-requires : tie.Need-judge-requires
-judge-requires c κs = search needs
-
-slice-aggregate-all : tie.Need-slice-aggregate-all
-slice-aggregate-all c = search needs
+config-requires : tie.Need-config-requires
+config-requires c κs = search needs
 
 first-requires : tie.Need-first-requires
 first-requires c κs = search needs
 
 first-requires-2 : tie.Need-first-requires-2
 first-requires-2 c κs = search needs
+
+slice-aggregate-judge : tie.Need-slice-aggregate-judge
+slice-aggregate-judge c = search needs
+
+judge-requires : tie.Need-judge-requires
+judge-requires c κs =
+    let given = c .before .before .before .before .before .before .before .before .before .before .before .before .before .before .before .before .before .args in
+    let first-call = c .before .before .before .first in
+    let config-call = c .before .before .before .before .config in
+    let s = (stateOf (given .marks) (given .held-count .now) (given .held .now) (given .proven-count .now) (given .proven .now) (given .counts .now) (given .words .now)) in
+    (λ e. rw (first-call .ensures) (fit (given .r) (given .own) (length (given .out .now)) (given .v) s (sym (config-call .ensures) ∙ e) .short), search needs)
+
+slice-aggregate-all : tie.Need-slice-aggregate-all
+slice-aggregate-all c = search needs
 
 first-requires-3 : tie.Need-first-requires-3
 first-requires-3 c κs = search needs
@@ -41,43 +49,36 @@ replace-requires-2 c κs = search needs
 update-requires : tie.Need-update-requires
 update-requires c κs = search needs
 
+finish-requires : tie.Need-finish-requires
+finish-requires c κs = search needs
+
 same-length : tie.Need-same-length
 same-length c = search needs
 
 returns : tie.Need-returns
 returns c =
-    let given = c .before .before .before .before .before .before .before .before .before .before .before .before .before .before .before .before .before .before .before .before .before .before .before .before .before .before .before .before .before .before .before .before .before .args in
-    let judge-call = c .before .before .before .before .before .before .before .before .before .before .before .before .before .before .before .before .before .before .before .judge in
-    let tallies2-call = c .before .before .before .before .before .before .before .before .before .before .before .before .before .before .before .before .before .before .before .before .before .before .before .tallies2 in
-    let rows2-call = c .before .before .before .before .before .before .before .before .before .before .before .before .before .before .before .before .before .before .before .before .before .rows2 in
-    let first-call = c .before .before .before .before .before .before .before .before .before .before .before .before .before .before .before .before .first in
-    let first2-call = c .before .before .before .before .before .before .before .before .before .before .before .before .before .before .before .first2 in
+    let given = c .before .before .before .before .before .before .before .before .before .before .before .before .before .before .before .before .before .before .before .before .before .before .before .before .before .before .before .before .before .before .before .before .before .before .before .args in
+    let judge-call = c .before .before .before .before .before .before .before .before .before .before .before .before .before .before .before .before .before .judge in
+    let first-call = c .before .before .before .before .before .before .before .before .before .before .before .before .before .before .before .before .before .before .before .before .before .first in
+    let first2-call = c .before .before .before .before .before .before .before .before .before .before .before .before .before .before .before .before .before .before .before .before .first2 in
+    let config-call = c .before .before .before .before .before .before .before .before .before .before .before .before .before .before .before .before .before .before .before .before .before .before .config in
+    let sums2-call = c .before .before .before .before .before .before .before .before .before .before .before .before .before .before .before .before .before .before .before .before .before .before .before .before .before .sums2 in
+    let rows2-call = c .before .before .before .before .before .before .before .before .before .before .before .before .before .before .before .before .before .before .before .before .before .before .before .rows2 in
     let first3-call = c .before .before .before .before .before .before .before .before .before .before .before .before .before .before .first3 in
+    let finish-call = c .finish in
     let reply-call = c .before .before .before .before .before .before .before .before .before .before .before .before .reply in
     let replace-call = c .before .before .before .before .before .before .before .replace in
     let replace2-call = c .before .before .before .before .replace2 in
     let update-call = c .before .update in
     let s = (stateOf (given .marks) (given .held-count .now) (given .held .now) (given .proven-count .now) (given .proven .now) (given .counts .now) (given .words .now)) in
     carried-out (given .own) (given .v .view) s (given .out .now) _ (judge-call .result) _
-    (ap (settled (given .own) (given .v .view) s) (judge-call .ensures)
+    (ap (settled (given .own) (given .v .view) s)
+    (judge-call .ensures
+    ∙ line-tested (given .r) (given .own) (length (given .out .now)) (given .v) s (given .line .now) (now (first-call .result)) (now (first2-call .result)) (config-call .result) (config-call .ensures) (first-call .ensures) (first2-call .ensures))
     ∙ settled-line (given .r) (given .own) (given .v) s (length (given .out .now)) (given .line .now)
-    (record { counts-length = omega (arith, tallies2-call .given); words-length = omega (arith, rows2-call .given) }))
-    (now (first-call .result)) (now (first2-call .result)) (now (first3-call .result)) _ _ _ _ _ _ _ _
-    (first-call .ensures) (first2-call .ensures) (first3-call .ensures) (reply-call .ensures) (replace-call .ensures) (replace2-call .ensures) (update-call .ensures)
+    (record { counts-length = omega (arith, sums2-call .given); words-length = omega (arith, rows2-call .given) }))
+    (now (first3-call .result)) (now (first-call .result)) (now (first2-call .result)) _ _ _ _ _ _ _ _ (finish-call .result)
+    (first3-call .ensures) (first-call .ensures) (first2-call .ensures) (reply-call .ensures) (replace-call .ensures) (replace2-call .ensures) (update-call .ensures) (finish-call .ensures)
 
 pub step-in-place-spec : {M : Type 1} → statement M
-step-in-place-spec =
-    tie.close
-    (tie.spec
-    slice-aggregate-judge
-    judge-requires
-    slice-aggregate-all
-    first-requires
-    first-requires-2
-    first-requires-3
-    reply-requires
-    replace-requires
-    replace-requires-2
-    update-requires
-    same-length
-    returns)
+step-in-place-spec = tie.close (tie.spec config-requires first-requires first-requires-2 slice-aggregate-judge judge-requires slice-aggregate-all first-requires-3 reply-requires replace-requires replace-requires-2 update-requires finish-requires same-length returns)

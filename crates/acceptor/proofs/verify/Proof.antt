@@ -25,7 +25,7 @@ against-requires-2 c κs = search needs
 returns-2 : tie.Need-returns-2
 unfolding judged onVerify
 returns-2 c =
-    let if1 = c .before .before .before .before .before .before .before .before .before .if1 in
+    let if1 = c .before .before .before .before .before .before .if1 in
     let if2 = c .before .if2 in
     let against2-call = c .against2 in
     rw (if1 .left, if2 .taken) (against2-call .ensures)
@@ -39,7 +39,7 @@ against-requires-3 c κs = search needs
 returns-3 : tie.Need-returns-3
 unfolding judged onVerify wrong
 returns-3 c =
-    let if1 = c .before .before .before .before .before .before .before .before .before .before .before .if1 in
+    let if1 = c .before .before .before .before .before .before .before .before .if1 in
     let if2 = c .before .before .before .if2 in
     let all-valid-call = c .before .before .all-valid in
     let if3 = c .before .if3 in
@@ -55,7 +55,7 @@ against-requires-4 c κs = search needs
 returns-4 : tie.Need-returns-4
 unfolding judged onVerify wrong
 returns-4 c =
-    let if1 = c .before .before .before .before .before .before .before .before .before .before .before .before .before .if1 in
+    let if1 = c .before .before .before .before .before .before .before .before .before .before .if1 in
     let if2 = c .before .before .before .before .before .if2 in
     let all-valid-call = c .before .before .before .before .all-valid in
     let if3 = c .before .before .before .if3 in
@@ -70,7 +70,7 @@ enter-requires c κs = search needs
 returns-5 : tie.Need-returns-5
 unfolding judged onVerify wrong
 returns-5 c =
-    let if1 = c .before .before .before .before .before .before .before .before .before .before .before .before .before .if1 in
+    let if1 = c .before .before .before .before .before .before .before .before .before .before .if1 in
     let if2 = c .before .before .before .before .before .if2 in
     let all-valid-call = c .before .before .before .before .all-valid in
     let if3 = c .before .before .before .if3 in

@@ -53,7 +53,7 @@ verify-requires : tie.Need-verify-requires
 verify-requires c κs =
     let sizes = c .before .before .before .before .before .before .before .before .before .before .before .pre in
     let given = c .before .before .before .before .before .before .before .before .before .before .before .args in
-    (sizes .few-sites, omega (arith, length-take-le (given .e .n) (given .buf .now) (omega arith)))
+    (sizes .fit .few-sites, omega (arith, length-take-le (given .e .n) (given .buf .now) (omega arith)))
 
 same-length-3 : tie.Need-same-length-3
 same-length-3 c = search needs
