@@ -4,7 +4,8 @@ use native.Mathlib.Nat.{not-suc-le-zero, le-of-suc-le-suc}
 use mathlib.Core.Path.{_≡_, refl, ap, _∙_}
 use mathlib.Core.List.{List}
 use lib.ListN.{length, getD}
-use Rattle.frame.specs.Leaves.{digitIn, pair, tabled, values, pairs}
+use Rattle.frame.specs.Hex.{digit}
+use Rattle.frame.specs.Leaves.{digitIn, tabled, values, characters}
 
 entry : (n : ℕ) (rule : ℕ → ℕ) (k : ℕ) → k < n → getD (tabled n rule) k 0 ≡ rule k
 entry zero rule k h = absurd (not-suc-le-zero h)
@@ -24,10 +25,10 @@ module _ (t : List ℕ) where
   unfolding values
   values-length e = ap length e ∙ tabled-length 256 digitIn
 
-  pub pair-at : t ≡ pairs → (b : ℕ) → b < 256 → getD t b 0 ≡ pair b
-  unfolding pairs
-  pair-at e b h = ap (λ (l : List ℕ). getD l b 0) e ∙ entry 256 pair b h
+  pub character-at : t ≡ characters → (d : ℕ) → d < 16 → getD t d 0 ≡ digit d
+  unfolding characters
+  character-at e d h = ap (λ (l : List ℕ). getD l d 0) e ∙ entry 16 digit d h
 
-  pub pairs-length : t ≡ pairs → length t ≡ 256
-  unfolding pairs
-  pairs-length e = ap length e ∙ tabled-length 256 pair
+  pub characters-length : t ≡ characters → length t ≡ 16
+  unfolding characters
+  characters-length e = ap length e ∙ tabled-length 16 digit

@@ -16,7 +16,7 @@ use Rattle.frame.specs.Hex.{digit, isDigit, valueOf, allDigits, byteOf, 
 use Rattle.frame.specs.HexLaws.{Byte, byte-of, value-lt}
 use Rattle.frame.specs.Kinds.{uses, isKind, zeroUnless}
 use Rattle.frame.specs.Format.{allZero}
-use Rattle.frame.specs.Leaves.{digitIn, numberIn, pair, properHeader}
+use Rattle.frame.specs.Leaves.{digitIn, numberIn, properHeader}
 use Rattle.frame.specs.Tests.{and-left, and-right, and-both, everyBelow, every-at}
 
 -- what is left of a list at i is its element there and what is left after it
@@ -196,30 +196,6 @@ module _ (l : List ℕ) (width x i : ℕ) (inv : Spelling l width x i) where
 
 -- ---- one number that is written
 
-below-test : ℕ → Bool
-below-test d = ltb (digit d) 256
-
-all-below : everyBelow 16 below-test ≡ true
-unfolding everyBelow below-test digit
-all-below = refl
-
-digit-below : (d : ℕ) → d < 16 → digit d < 256
-unfolding below-test
-digit-below d h = ltb-true (digit d) 256 (every-at 16 below-test all-below d h)
-
--- the two characters of a byte
-pub record Characters (p b : ℕ) : Type 0 where
-  pub first : p % 256 ≡ digit (b / 16)
-  pub second : p / 256 ≡ digit (b % 16)
-  pub below : p / 256 < 256
-
-pub characters : (p b : ℕ) → b < 256 → p ≡ pair b → Characters p b
-unfolding pair
-characters p b h e =
-    let u = digit-below (b / 16) (omega arith) in
-    let v = digit-below (b % 16) (omega arith) in
-    record { first = omega arith; second = omega arith; below = omega arith }
-
 -- two elements that are stored, as what is left there shows
 two-set : (l : List ℕ) (at u v : ℕ) → at + 1 < length l → drop at (set (set l at u) (at + 1) v) ≡ u ∷ v ∷ drop (at + 2) l
 two-set l at u v h =
@@ -246,23 +222,22 @@ putting-start l width x e =
           ∙ append-nil (digitsOf width x);
     }
 
-pub putting-turn : (l : List ℕ) (x k n : ℕ) (goal : List ℕ) (p : ℕ) → Putting l x k n goal → 0 < k → p ≡ pair (x % 256)
-    → Putting (set (set l (2 * (k - 1)) (p % 256)) (2 * (k - 1) + 1) (p / 256)) (x / 256) (k - 1) n goal
+pub putting-turn : (l : List ℕ) (x k n : ℕ) (goal : List ℕ) (u v : ℕ) → Putting l x k n goal → 0 < k → u ≡ digit (x % 256 / 16) → v ≡ digit (x % 256 % 16)
+    → Putting (set (set l (2 * (k - 1)) u) (2 * (k - 1) + 1) v) (x / 256) (k - 1) n goal
 unfolding digitsOf
-putting-turn l x k n goal p inv h e =
+putting-turn l x k n goal u v inv h eu ev =
     let j = k - 1 in
-    let chars = characters p (x % 256) (omega arith) e in
     let at : 2 * j + 2 ≡ 2 * k = omega arith in
     let up : k ≡ suc j = omega arith in
     let last : digitsOf k x ≡ digitsOf j (x / 256) ++ digit (x % 256 / 16) ∷ digit (x % 256 % 16) ∷ [] =
     ap (λ (m : ℕ). digitsOf m x) up in
     record {
-      size = length-set (set l (2 * j) (p % 256)) (2 * j + 1) (p / 256) ∙ length-set l (2 * j) (p % 256) ∙ inv .size;
+      size = length-set (set l (2 * j) u) (2 * j + 1) v ∙ length-set l (2 * j) u ∙ inv .size;
       inside = omega (arith, inv .inside);
       rest =
           ap (λ (r : List ℕ). digitsOf j (x / 256) ++ r)
-          (two-set l (2 * j) (p % 256) (p / 256) (omega (arith, inv .inside, inv .size))
-          ∙ ap₂ (λ (u v : ℕ). u ∷ v ∷ drop (2 * j + 2) l) (chars .first) (chars .second)
+          (two-set l (2 * j) u v (omega (arith, inv .inside, inv .size))
+          ∙ ap₂ (λ (a b : ℕ). a ∷ b ∷ drop (2 * j + 2) l) eu ev
           ∙ ap (λ (m : ℕ). digit (x % 256 / 16) ∷ digit (x % 256 % 16) ∷ drop m l) at)
           ∙ sym (append-assoc (digitsOf j (x / 256)) (digit (x % 256 / 16) ∷ digit (x % 256 % 16) ∷ []) (drop (2 * k) l))
           ∙ sym (ap (λ (s : List ℕ). s ++ drop (2 * k) l) last)

@@ -104,3 +104,16 @@ writtenLength f out = cond (hasRoom f (length out)) (lineLength (count f)) 0
 
 unfoldable pub written : Frame → List ℕ → List ℕ
 written f out = cond (hasRoom f (length out)) (lineOf f ++ drop (lineLength (count f)) out) out
+
+-- the frame with this heading and these two lists of commands, whether the lists are n and m long, and what writing it answers and leaves
+abbrev pub frameFrom : Heading → List ℕ → List ℕ → Frame
+frameFrom h g k = frameWith h (padded (g ++ k))
+
+unfoldable pub listed : Heading → List ℕ → List ℕ → Bool
+listed h g k = eqb (length g) (h .n) && eqb (length k) (h .m)
+
+unfoldable pub lengthFrom : Heading → List ℕ → List ℕ → List ℕ → ℕ
+lengthFrom h g k out = cond (listed h g k) (writtenLength (frameFrom h g k) out) 0
+
+unfoldable pub writtenFrom : Heading → List ℕ → List ℕ → List ℕ → List ℕ
+writtenFrom h g k out = cond (listed h g k) (written (frameFrom h g k) out) out

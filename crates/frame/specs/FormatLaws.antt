@@ -151,37 +151,37 @@ zeros-are [] e = refl
 zeros-are (x ∷ xs) e =
     ap₂ (λ (n : ℕ) (s : List ℕ). n ∷ s) (eqb-true x 0 (and-left (eqb x 0) (allZero xs) e)) (zeros-are xs (and-right (eqb x 0) (allZero xs) e))
 
-all-zeros : (n : ℕ) → allZero (replicate n 0) ≡ true
+pub all-zeros : (n : ℕ) → allZero (replicate n 0) ≡ true
 unfolding allZero
 all-zeros zero = refl
 all-zeros (suc n) = all-zeros n
 
 -- words whose rest is 0 are their first ones padded
-padded-words : (k : ℕ) (xs : List ℕ) → length xs ≡ capacity → k ≤ capacity → allZero (drop k xs) ≡ true → padded (take k xs) ≡ xs
+pub padded-words : (k : ℕ) (xs : List ℕ) → length xs ≡ capacity → k ≤ capacity → allZero (drop k xs) ≡ true → padded (take k xs) ≡ xs
 padded-words k xs e h z =
     let rest : capacity - length (take k xs) ≡ length (drop k xs) = omega (arith, length-drop k xs, length-take-le k xs (omega arith)) in
     ap (λ (n : ℕ). take k xs ++ replicate n 0) rest
     ∙ ap (λ (s : List ℕ). take k xs ++ s) (sym (zeros-are (drop k xs) z))
     ∙ take-append-drop k xs
 
--- numbers that fit do so with zeros after them, and spell the same
-zeros-fit : (j : ℕ) → allFit (commands j) (replicate j 0) ≡ true
+-- numbers that fit do so together, zeros among them, and spell the same with zeros after them
+pub zeros-fit : (j : ℕ) → allFit (commands j) (replicate j 0) ≡ true
 unfolding allFit
 zeros-fit zero = refl
 zeros-fit (suc j) = zeros-fit j
 
-fit-more : (k j : ℕ) (xs : List ℕ) → allFit (commands k) xs ≡ true → allFit (commands (k + j)) (xs ++ replicate j 0) ≡ true
+pub fit-append : (k j : ℕ) (xs ys : List ℕ) → allFit (commands k) xs ≡ true → allFit (commands j) ys ≡ true → allFit (commands (k + j)) (xs ++ ys) ≡ true
 unfolding allFit
-fit-more zero j [] e = subst (λ (n : ℕ). allFit (commands n) (replicate j 0) ≡ true) (sym (zero-add j)) (zeros-fit j)
-fit-more zero j (x ∷ xs) e = absurd (true≢false (sym e))
-fit-more (suc k) j [] e = absurd (true≢false (sym e))
-fit-more (suc k) j (x ∷ xs) e =
+fit-append zero j [] ys e f = subst (λ (n : ℕ). allFit (commands n) ys ≡ true) (sym (zero-add j)) f
+fit-append zero j (x ∷ xs) ys e f = absurd (true≢false (sym e))
+fit-append (suc k) j [] ys e f = absurd (true≢false (sym e))
+fit-append (suc k) j (x ∷ xs) ys e f =
     let t = ltb x (256 ^ commandWidth) in
-    subst (λ (n : ℕ). allFit (commands n) (x ∷ xs ++ replicate j 0) ≡ true) (sym (suc-add k j))
-    (and-both t (allFit (commands (k + j)) (xs ++ replicate j 0)) (and-left t (allFit (commands k) xs) e)
-    (fit-more k j xs (and-right t (allFit (commands k) xs) e)))
+    subst (λ (n : ℕ). allFit (commands n) (x ∷ xs ++ ys) ≡ true) (sym (suc-add k j))
+    (and-both t (allFit (commands (k + j)) (xs ++ ys)) (and-left t (allFit (commands k) xs) e)
+    (fit-append k j xs ys (and-right t (allFit (commands k) xs) e) f))
 
-spell-more : (k : ℕ) (xs r : List ℕ) → length xs ≡ k → spell (commands k) (xs ++ r) ≡ spell (commands k) xs
+pub spell-more : (k : ℕ) (xs r : List ℕ) → length xs ≡ k → spell (commands k) (xs ++ r) ≡ spell (commands k) xs
 spell-more k xs r e =
     sym (spell-front k (xs ++ r)) ∙ ap (spell (commands k)) (take-at xs r k e)
 
@@ -358,7 +358,8 @@ module _ (l : List ℕ) (p : Parts l) where
         words-fit =
             ap (allFit (commands capacity)) frame-words
             ∙ ap (λ (n : ℕ). allFit (commands n) (padded words-are)) (sym room)
-            ∙ fit-more held (capacity - length words-are) words-are (numbers-fit (commands held) command-digits command-size command-spelled);
+            ∙ fit-append held (capacity - length words-are) words-are (replicate (capacity - length words-are) 0)
+            (numbers-fit (commands held) command-digits command-size command-spelled) (zeros-fit (capacity - length words-are));
       }
 
 -- ---- both ways, for every kind

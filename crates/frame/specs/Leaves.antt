@@ -18,21 +18,17 @@ use Rattle.frame.specs.Format.{frameOf, lineFeed, nothing, readingOf, re
 unfoldable pub digitIn : ℕ → ℕ
 digitIn c = cond (isDigit c) (valueOf c) 256
 
--- the two characters of a byte as one number: the first, and the second times 256
-unfoldable pub pair : ℕ → ℕ
-pair b = digit (b / 16) + 256 * digit (b % 16)
-
 -- the list of what a rule gives at each number below n
 abbrev pub tabled : ℕ → (ℕ → ℕ) → List ℕ
 tabled zero rule = []
 tabled (suc n) rule = rule 0 ∷ tabled n (λ k. rule (suc k))
 
--- the table of the digits that characters are, and that of the two characters of each byte
+-- the table of the digits that characters are, and that of the characters of digits
 unfoldable pub values : List ℕ
 values = tabled 256 digitIn
 
-unfoldable pub pairs : List ℕ
-pairs = tabled 256 pair
+unfoldable pub characters : List ℕ
+characters = tabled 16 digit
 
 -- a number read from digits; 0 where not all are digits
 unfoldable pub numberIn : List ℕ → Spelled

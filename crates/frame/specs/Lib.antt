@@ -8,4 +8,5 @@ pub mod Tests
 pub mod HexLaws
 pub mod FormatLaws
 pub mod BareLaws
+pub mod FromLaws
 pub mod InverseLaws

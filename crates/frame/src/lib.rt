@@ -13,7 +13,6 @@ mod tables;
 
 use roster::Ballot;
 use roster::View;
-use tables::PAIRS;
 use tables::VALUES;
 
 // The longest line, with its line feed.
@@ -219,24 +218,24 @@ fn all_zero(words: &[u64]) -> bool
 }
 
 // Writes a number of `width` bytes as digits, the last byte first.
-fn write_number(pairs: &[u16], digits: &mut [u8], width: usize, number: u64)
-    requires { ⌜ (now pairs ≡ leaves.pairs) × (length (now digits) ≡ 2 * width) ⌝ }
+fn write_number(characters: &[u8], digits: &mut [u8], width: usize, number: u64)
+    requires { ⌜ (now characters ≡ leaves.characters) × (length (now digits) ≡ 2 * width) ⌝ }
     ensures { λ r. ⌜ now (digits .exit) ≡ hex.digitsOf width number ⌝ }
 {
     let mut x = number;
     let mut k = width;
     while 0 < k {
         k -= 1;
-        let pair = pairs[(x % 256) as usize];
-        digits[2 * k] = (pair % 256) as u8;
-        digits[2 * k + 1] = (pair / 256) as u8;
+        let byte = (x % 256) as usize;
+        digits[2 * k] = characters[byte / 16];
+        digits[2 * k + 1] = characters[byte % 16];
         x /= 256;
     }
 }
 
 // Writes the header's values.
-fn write_header(pairs: &[u16], digits: &mut [u8], head: &[u64])
-    requires { ⌜ (now pairs ≡ leaves.pairs) × (length (now digits) ≡ 2 * hex.total layout.widths) × (length (now head) ≡ length layout.widths) ⌝ }
+fn write_header(characters: &[u8], digits: &mut [u8], head: &[u64])
+    requires { ⌜ (now characters ≡ leaves.characters) × (length (now digits) ≡ 2 * hex.total layout.widths) × (length (now head) ≡ length layout.widths) ⌝ }
     ensures { λ r. ⌜ now (digits .exit) ≡ hex.spell layout.widths (now (head .entry)) ⌝ }
 {
     let mut at: usize = 0;
@@ -244,22 +243,22 @@ fn write_header(pairs: &[u16], digits: &mut [u8], head: &[u64])
     while k < 8 {
         let width = WIDTHS[k];
         let end = at + 2 * width;
-        write_number(pairs, &mut digits[at..end], width, head[k]);
+        write_number(characters, &mut digits[at..end], width, head[k]);
         at = end;
         k += 1;
     }
 }
 
-// Writes the commands.
-fn write_words(pairs: &[u16], digits: &mut [u8], words: &[u64])
-    requires { ⌜ (now pairs ≡ leaves.pairs) × (length (now digits) ≡ 16 * length (now words)) ⌝ }
+// Writes commands.
+fn write_words(characters: &[u8], digits: &mut [u8], words: &[u64])
+    requires { ⌜ (now characters ≡ leaves.characters) × (length (now digits) ≡ 16 * length (now words)) ⌝ }
     ensures { λ r. ⌜ now (digits .exit) ≡ hex.spell (format.commands (length (now (words .entry)))) (now (words .entry)) ⌝ }
 {
     let mut k: usize = 0;
     while k < words.len() {
         let at = COMMAND * k;
         let end = at + COMMAND;
-        write_number(pairs, &mut digits[at..end], 8, words[k]);
+        write_number(characters, &mut digits[at..end], 8, words[k]);
         k += 1;
     }
 }
@@ -425,37 +424,69 @@ pub fn read(line: &[u8], kinds: u16) -> Reading
     }
 }
 
-// Writes the frame's line at the front of `out` and answers its length; 0, and nothing is written, where it has no line or there is no room.
-pub fn write(frame: Frame, out: &mut [u8]) -> usize
-    ensures { λ r. ⌜ (r ≡ format.writtenLength frame (now (out .entry))) × (now (out .exit) ≡ format.written frame (now (out .entry))) ⌝ }
+// Writes the line of a frame with this heading (`found` is not looked at) and these two lists of commands at the front of `out`, and answers its
+// length; 0, and nothing is written, where it has no line, the lists are not n and m long, or there is no room.
+pub fn write_from<'a>(h: Heading, g: &'a [u64], k: &'a [u64], out: &mut [u8]) -> usize
+    ensures { λ r. ⌜ (r ≡ format.lengthFrom h (now (g .entry)) (now (k .entry)) (now (out .entry))) × (now (out .exit) ≡ format.writtenFrom h (now (g .entry)) (now (k .entry)) (now (out .entry))) ⌝ }
 {
+    let listed = (g.len() == h.n as usize) & (k.len() == h.m as usize);
+    if !listed {
+        return 0;
+    }
     let head = [
-        frame.kind as u64,
-        frame.sender as u64,
-        frame.view.0 as u64,
-        frame.ballot.0 as u64,
-        frame.proven.0 as u64,
-        frame.mask as u64,
-        frame.n as u64,
-        frame.m as u64,
+        h.kind as u64,
+        h.sender as u64,
+        h.view.0 as u64,
+        h.ballot.0 as u64,
+        h.proven.0 as u64,
+        h.mask as u64,
+        h.n as u64,
+        h.m as u64,
     ];
     let fine = proper(&head);
     if !fine {
         return 0;
     }
-    let count = frame.n as usize + frame.m as usize;
+    let middle = HEADER + COMMAND * g.len();
+    let end = middle + COMMAND * k.len();
+    if out.len() <= end {
+        return 0;
+    }
+    let characters: &[u8] = b"0123456789abcdef";
+    write_header(characters, &mut out[..HEADER], &head);
+    write_words(characters, &mut out[HEADER..middle], g);
+    write_words(characters, &mut out[middle..end], k);
+    out[end] = FEED;
+    end + 1
+}
+
+// Writes the frame's line at the front of `out` and answers its length; 0, and nothing is written, where it has no line or there is no room.
+pub fn write(frame: Frame, out: &mut [u8]) -> usize
+    ensures { λ r. ⌜ (r ≡ format.writtenLength frame (now (out .entry))) × (now (out .exit) ≡ format.written frame (now (out .entry))) ⌝ }
+{
+    let n = frame.n as usize;
+    let count = n + frame.m as usize;
     let words: &[u64] = &frame.words;
+    if words.len() < count {
+        return 0;
+    }
     let clear = all_zero(&words[count..]);
     if !clear {
         return 0;
     }
-    let end = HEADER + COMMAND * count;
-    if out.len() <= end {
-        return 0;
-    }
-    let pairs: &[u16] = &PAIRS;
-    write_header(pairs, &mut out[..HEADER], &head);
-    write_words(pairs, &mut out[HEADER..end], &words[..count]);
-    out[end] = FEED;
-    end + 1
+    let view = frame.view;
+    let ballot = frame.ballot;
+    let proven = frame.proven;
+    let h = Heading {
+        found: true,
+        kind: frame.kind,
+        sender: frame.sender,
+        view,
+        ballot,
+        proven,
+        mask: frame.mask,
+        n: frame.n,
+        m: frame.m,
+    };
+    write_from(h, &words[..n], &words[n..count], out)
 }

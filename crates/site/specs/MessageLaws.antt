@@ -1,24 +1,27 @@
 -- Which messages have a line, and what their first list is; and that the numbers and words of a frame that was read fit their widths.
-use mathlib.Core.Path.{_≡_, refl, subst}
+use mathlib.Core.Path.{_≡_, refl, ap, subst, _∙_}
 use mathlib.Core.Bool.{true, false, false≢true}
 use mathlib.Core.List.{List, [], _∷_, _++_, append-nil}
-use Prim.Native.Nat.{ℕ, zero, suc, _^_, _≤_, _<_}
-use native.Mathlib.Nat.{not-suc-le-zero, le-of-suc-le-suc}
+use Prim.Native.Nat.{ℕ, zero, suc, _-_, _^_, _≤_, _<_}
+use native.Mathlib.Nat.{not-suc-le-zero, le-of-suc-le-suc, sub-zero, suc-sub-suc}
 use native.Mathlib.Omega.{arith}
-use borrow.Author.Tests.{ltb-true, lt-ltb, not-false}
+use borrow.Author.Tests.{ltb-true, lt-ltb, eq-eqb, not-false}
 use lib.Dec.{ltb, lit<}
-use lib.ListN.{length, getD, take, drop, length-append}
+use lib.ListN.{length, getD, take, drop, replicate, length-append}
 use Rattle.roster.specs.declared.View.{View}
 use Rattle.roster.specs.declared.Ballot.{Ballot}
 use Rattle.roster.specs.SitesLaws.{and-left, and-right}
 use Rattle.history.specs.Words.{limit, padded}
 use Rattle.history.specs.WordsLaws.{length-padded, take-padded}
 use Rattle.history.specs.FitLaws.{EachFits, none, more, each-take, each-drop, each-append, each-padded}
+use Rattle.frame.specs.declared.Frame.{Frame}
+use Rattle.frame.specs.declared.Heading.{Heading}
 use Rattle.frame.specs.Hex.{allFit}
 use Rattle.frame.specs.Layout.{capacity, widths, values, first, second}
-use Rattle.frame.specs.Format.{readingOf, malformed, proper, allZero, writable}
+use Rattle.frame.specs.Format.{readingOf, malformed, proper, allZero, writable, writtenLength, written, frameWith, frameFrom, listed, lengthFrom, writtenFrom}
 use Rattle.frame.specs.Format as format
 use Rattle.frame.specs.FormatLaws.{Written, writable-is, is-writable, found-writable}
+use Rattle.frame.specs.FromLaws.{from-listed}
 use Rattle.site.specs.Message.{message}
 
 -- ---- words of eight bytes
@@ -110,6 +113,49 @@ module _ (kind own : ℕ) (view : View) (ballot proven : Ballot) (mask : ℕ) {h
         header-fits = header-fits kind own (view .0) (ballot .0) (proven .0) mask (length h) (length k) a b c d e f (omega arith) (omega arith);
         words-fit = each-fit capacity (each-padded capacity (each-append v w)) (length-padded capacity (h ++ k));
       })
+
+-- ---- the frame of a heading and two lists
+
+-- zeros after a list, both ways that they are written
+zeros-padded : (n : ℕ) → replicate n 0 ≡ padded n []
+unfolding padded
+zeros-padded zero = refl
+zeros-padded (suc n) = ap (λ (l : List ℕ). 0 ∷ l) (zeros-padded n)
+
+padded-is : (n : ℕ) (l : List ℕ) → length l ≤ n → l ++ replicate (n - length l) 0 ≡ padded n l
+unfolding padded
+padded-is n [] p = rw sub-zero (zeros-padded n)
+padded-is zero (c ∷ l) p = absurd (omega arith)
+padded-is (suc n) (c ∷ l) p = rw suc-sub-suc (ap (λ (r : List ℕ). c ∷ r) (padded-is n l (omega arith)))
+
+-- what is written of them is what is written of the message
+module _ (kind own : ℕ) (view : View) (ballot proven : Ballot) (mask : ℕ) (h k : List ℕ) (p : length h ≤ limit) (q : length k ≤ limit) (out : List ℕ) where
+  abbrev pub headed : Heading
+  headed =
+      record {
+        found = true;
+        kind = kind;
+        sender = own;
+        view = view;
+        ballot = ballot;
+        proven = proven;
+        mask = mask;
+        n = length h;
+        m = length k;
+      }
+
+  are-listed : listed headed h k ≡ true
+  unfolding listed
+  are-listed = rw (eq-eqb (length h) (length h) refl, eq-eqb (length k) (length k) refl)
+
+  same-frame : frameFrom headed h k ≡ message kind own view ballot proven mask h k
+  same-frame = ap (frameWith headed) (padded-is capacity (h ++ k) (omega (arith, length-append h k)))
+
+  pub message-length : lengthFrom headed h k out ≡ writtenLength (message kind own view ballot proven mask h k) out
+  message-length = from-listed headed h k out are-listed .0 ∙ ap (λ (f : Frame). writtenLength f out) same-frame
+
+  pub message-written : writtenFrom headed h k out ≡ written (message kind own view ballot proven mask h k) out
+  message-written = from-listed headed h k out are-listed .1 ∙ ap (λ (f : Frame). written f out) same-frame
 
 -- ---- the lists of a message
 

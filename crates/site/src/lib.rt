@@ -7,6 +7,7 @@ ghost use Rattle.site.specs.Site as spec;
 ghost use Rattle.site.specs.Reply as reply;
 ghost use Rattle.site.specs.Message as message;
 use frame::Frame;
+use frame::Heading;
 use history::History;
 use roster::Ballot;
 use roster::Roster;
@@ -62,6 +63,40 @@ fn lay(dst: &mut [u64], g: &[u64], h: &[u64])
     if n <= dst.len() {
         history::fill(&mut dst[n..], h);
     }
+}
+
+// Writes the frame of these values at the front of the buffer, if it is to be sent, and answers the length of its line; 0 if not.
+pub fn send<'a>(
+    sent: bool,
+    kind: u8,
+    own: u8,
+    view: View,
+    ballot: Ballot,
+    proven: Ballot,
+    mask: u16,
+    g: &'a [u64],
+    h: &'a [u64],
+    out: &mut [u8],
+) -> usize
+    ensures { λ k. ⌜ (k ≡ reply.lengthSent (reply.sendsIf sent (message.message kind own view ballot proven mask (take 32 (now (g .entry))) (take 32 (now (h .entry))))) (now (out .entry))) × (now (out .exit) ≡ reply.buffer (reply.sendsIf sent (message.message kind own view ballot proven mask (take 32 (now (g .entry))) (take 32 (now (h .entry))))) (now (out .entry))) ⌝ }
+{
+    if !sent {
+        return 0;
+    }
+    let one = history::first(g, History::LIMIT);
+    let two = history::first(h, History::LIMIT);
+    let heading = Heading {
+        found: true,
+        kind,
+        sender: own,
+        view,
+        ballot,
+        proven,
+        mask,
+        n: one.len() as u8,
+        m: two.len() as u8,
+    };
+    frame::write_from(heading, one, two, out)
 }
 
 // A frame from `own` with two lists of commands: the first 32 of each.

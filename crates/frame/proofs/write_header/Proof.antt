@@ -9,10 +9,10 @@ use Rattle.frame.proofs.write_header.Statement.{statement}
 use Rattle.frame.proofs.write_header.Tie as tie
 
 abbrev Inv-loop : tie.InvT-loop
-Inv-loop pairs digits₀ head at₀ k₀ digits at k = Laying widths head digits at k
+Inv-loop characters digits₀ head at₀ k₀ digits at k = Laying widths head digits at k
 
 abbrev μ-loop : tie.MeasureT-loop
-μ-loop pairs digits₀ head at₀ k₀ digits at k = 8 - k
+μ-loop characters digits₀ head at₀ k₀ digits at k = 8 - k
 
 loop-holds : tie.Need-loop-holds Inv-loop μ-loop
 loop-holds c = laying-start widths _ _ (c .before .before .before .pre .2) (c .before .before .before .pre .1)

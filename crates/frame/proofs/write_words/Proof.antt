@@ -11,10 +11,10 @@ use Rattle.frame.proofs.write_words.Statement.{statement}
 use Rattle.frame.proofs.write_words.Tie as tie
 
 abbrev Inv-loop : tie.InvT-loop
-Inv-loop pairs digits₀ words k₀ digits k = Laying (commands (length words)) words digits (16 * k) k
+Inv-loop characters digits₀ words k₀ digits k = Laying (commands (length words)) words digits (16 * k) k
 
 abbrev μ-loop : tie.MeasureT-loop
-μ-loop pairs digits₀ words k₀ digits k = length words - k
+μ-loop characters digits₀ words k₀ digits k = length words - k
 
 loop-holds : tie.Need-loop-holds Inv-loop μ-loop
 loop-holds c = laying-start _ _ _ (sym (commands-length _)) (c .before .before .before .pre .1 ∙ sym (commands-total _))

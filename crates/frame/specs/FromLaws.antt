@@ -1,0 +1,107 @@
+-- Frames whose heading and two lists of commands are apart: which have a line, what it is, and that every frame with a line is such a one.
+use Prim.Native.Nat.{ℕ, zero, suc, _+_, _-_, _≤_}
+use native.Mathlib.Nat.{zero-add, suc-add}
+use native.Mathlib.Omega.{arith}
+use mathlib.Core.Path.{_≡_, refl, sym, ap, ap₂, _∙_}
+use mathlib.Core.Bool.{Bool, true, false, cond, _&&_}
+use mathlib.Core.List.{List, [], _∷_, _++_, append-assoc}
+use lib.Dec.{eqb}
+use lib.ListN.{length, take, drop, replicate, length-append, length-drop}
+use lib.Seq.{drop-at, take-add, length-take-le}
+use borrow.Author.Tests.{eqb-true, eq-eqb}
+use Rattle.frame.specs.declared.Frame.{Frame}
+use Rattle.frame.specs.declared.Heading.{Heading}
+use Rattle.frame.specs.Hex.{digitsOf, spell, allFit}
+use Rattle.frame.specs.Layout.{commandWidth, capacity, widths, values, count, first, second}
+use Rattle.frame.specs.Format.{commands, lineFeed, lineOf, proper, allZero, writable, padded, writtenLength, written, frameWith, frameFrom, listed, lengthFrom, writtenFrom}
+use Rattle.frame.specs.FormatLaws.{proper-count, is-writable, fit-append, zeros-fit, all-zeros, padded-words, spell-more}
+use Rattle.frame.specs.Tests.{and-left, and-right, and-both}
+
+-- two lists of commands spell one after the other
+spell-append : (xs ys : List ℕ) → spell (commands (length xs + length ys)) (xs ++ ys) ≡ spell (commands (length xs)) xs ++ spell (commands (length ys)) ys
+unfolding spell
+spell-append [] ys = ap (λ (n : ℕ). spell (commands n) ys) (zero-add (length ys))
+spell-append (x ∷ xs) ys =
+    ap (λ (n : ℕ). spell (commands n) (x ∷ xs ++ ys)) (suc-add (length xs) (length ys))
+    ∙ ap (λ (s : List ℕ). digitsOf commandWidth x ++ s) (spell-append xs ys)
+    ∙ sym (append-assoc (digitsOf commandWidth x) (spell (commands (length xs)) xs) (spell (commands (length ys)) ys))
+
+module _ (h : Heading) (g k : List ℕ) (e : listed h g k ≡ true) where
+  pub listed-first : length g ≡ h .n
+  unfolding listed
+  listed-first = eqb-true (length g) (h .n) (and-left (eqb (length g) (h .n)) (eqb (length k) (h .m)) e)
+
+  pub listed-second : length k ≡ h .m
+  unfolding listed
+  listed-second = eqb-true (length k) (h .m) (and-right (eqb (length g) (h .n)) (eqb (length k) (h .m)) e)
+
+  pub listed-count : h .n + h .m ≡ length g + length k
+  listed-count = omega (arith, listed-first, listed-second)
+
+  both-length : length (g ++ k) ≡ length g + length k
+  both-length = length-append g k
+
+  -- a proper one of numbers that fit has a line
+  pub from-writable : proper (frameFrom h g k) ≡ true → allFit widths (values (frameFrom h g k)) ≡ true
+      → allFit (commands (length g)) g ≡ true → allFit (commands (length k)) k ≡ true → writable (frameFrom h g k) ≡ true
+  from-writable p f a b =
+      let zeros = capacity - length (g ++ k) in
+      let room : length g + length k + zeros ≡ capacity = omega (arith, proper-count (frameFrom h g k) p, listed-count, both-length) in
+      is-writable (frameFrom h g k)
+      (record {
+        values-proper = p;
+        clear =
+            ap (λ (n : ℕ). allZero (drop n (padded (g ++ k)))) (listed-count ∙ sym both-length)
+            ∙ ap allZero (drop-at (g ++ k) (replicate zeros 0) (length (g ++ k)) refl)
+            ∙ all-zeros zeros;
+        header-fits = f;
+        words-fit =
+            ap (λ (n : ℕ). allFit (commands n) (padded (g ++ k))) (sym room)
+            ∙ fit-append (length g + length k) zeros (g ++ k) (replicate zeros 0) (fit-append (length g) (length k) g k a b) (zeros-fit zeros);
+      })
+
+  -- which is the header, the first list, the second, and the line feed
+  pub from-line : lineOf (frameFrom h g k)
+      ≡ spell widths (values (frameFrom h g k)) ++ ((spell (commands (length g)) g ++ spell (commands (length k)) k) ++ lineFeed ∷ [])
+  unfolding lineOf
+  from-line =
+      let words : spell (commands (h .n + h .m)) (padded (g ++ k)) ≡ spell (commands (length g)) g ++ spell (commands (length k)) k =
+      ap (λ (n : ℕ). spell (commands n) (padded (g ++ k))) listed-count
+      ∙ spell-more (length g + length k) (g ++ k) (replicate (capacity - length (g ++ k)) 0) both-length
+      ∙ spell-append g k in
+      ap (λ (s : List ℕ). spell widths (values (frameFrom h g k)) ++ (s ++ lineFeed ∷ [])) words
+
+-- what is written where the lists are n and m long
+pub from-listed : (h : Heading) (g k out : List ℕ) → listed h g k ≡ true
+    → (lengthFrom h g k out ≡ writtenLength (frameFrom h g k) out) × (writtenFrom h g k out ≡ written (frameFrom h g k) out)
+unfolding lengthFrom writtenFrom
+from-listed h g k out e = (rw e, rw e)
+
+-- a frame's heading
+abbrev pub headOf : Frame → Heading
+headOf f =
+    record {
+      found = true;
+      kind = f .kind;
+      sender = f .sender;
+      view = f .view;
+      ballot = f .ballot;
+      proven = f .proven;
+      mask = f .mask;
+      n = f .n;
+      m = f .m;
+    }
+
+-- a frame with 0 after its commands is that of its heading and its two lists
+module _ (f : Frame) (size : length (f .words) ≡ capacity) (few : count f ≤ capacity) where
+  pub lists-are : listed (headOf f) (first f) (second f) ≡ true
+  unfolding listed
+  lists-are =
+      and-both (eqb (length (first f)) (f .n)) (eqb (length (second f)) (f .m))
+      (eq-eqb (length (first f)) (f .n) (length-take-le (f .n) (f .words) (omega arith)))
+      (eq-eqb (length (second f)) (f .m) (length-take-le (f .m) (drop (f .n) (f .words)) (omega (arith, length-drop (f .n) (f .words)))))
+
+  pub from-parts : allZero (drop (count f) (f .words)) ≡ true → frameFrom (headOf f) (first f) (second f) ≡ f
+  from-parts z =
+      ap (λ (ws : List ℕ). frameWith (headOf f) (padded ws)) (sym (take-add (f .n) (f .m) (f .words)))
+      ∙ ap (frameWith (headOf f)) (padded-words (count f) (f .words) size few z)
