@@ -1,5 +1,5 @@
--- Two lists laid one after the other in an array, and the length of a list that was cut.
-use mathlib.Core.Path.{_≡_, refl, ap, _∙_}
+-- Two lists laid one after the other in an array, the length of a list that was cut, and what is written of two such lists.
+use mathlib.Core.Path.{_≡_, refl, ap, ap₂, _∙_}
 use mathlib.Core.List.{List, [], _∷_, _++_, append-nil}
 use Prim.Native.Nat.{ℕ, zero, suc, _-_, _^_, _≤_, _<_}
 use native.Mathlib.Omega.{arith}
@@ -9,6 +9,11 @@ use lib.Seq.{length-take-le}
 use borrow.Rule.Slice.PartMut.{midOf, putMid}
 use Rattle.history.specs.Words.{padded}
 use Rattle.history.specs.WordsLaws.{length-padded}
+use Rattle.roster.specs.declared.View.{View}
+use Rattle.roster.specs.declared.Ballot.{Ballot}
+use Rattle.frame.specs.Format.{writtenLength, written, lengthFrom, writtenFrom}
+use Rattle.site.specs.Message.{message}
+use Rattle.site.specs.MessageLaws.{headed, message-length, message-written}
 
 -- the first list fits, and the second is laid behind it; or the first list fills the array
 both : (n : ℕ) (g h : List ℕ) → length g ≤ n → take (length g) (padded n g) ++ padded (n - length g) h ≡ padded n (g ++ h)
@@ -44,3 +49,20 @@ module _ (dst g h w : List ℕ) where
 -- the length of a list's first 32 words fits a byte
 pub cut-fits : (l w : List ℕ) → w ≡ take 32 l → length w < 2 ^ 8
 cut-fits l w e = rw (e, length-take) (omega arith)
+
+cut-short : (l w : List ℕ) → w ≡ take 32 l → length w ≤ 32
+cut-short l w e = rw (e, length-take) (omega arith)
+
+-- what is written of a heading and two lists that were cut is what is written of the message
+pub message-sent : (kind own : ℕ) (view : View) (ballot proven : Ballot) (mask : ℕ) (g h one two out : List ℕ) → one ≡ take 32 g → two ≡ take 32 h → (r : ℕ) (put : List ℕ)
+    → (r ≡ lengthFrom (headed kind own view ballot proven mask one two) one two out) × (put ≡ writtenFrom (headed kind own view ballot proven mask one two) one two out)
+    → (r ≡ writtenLength (message kind own view ballot proven mask (take 32 g) (take 32 h)) out)
+    × (put ≡ written (message kind own view ballot proven mask (take 32 g) (take 32 h)) out)
+message-sent kind own view ballot proven mask g h one two out e f r put w =
+    let p = cut-short g one e in
+    let q = cut-short h two f in (
+      w .0 ∙ message-length kind own view ballot proven mask one two p q out
+          ∙ ap₂ (λ (x y : List ℕ). writtenLength (message kind own view ballot proven mask x y) out) e f,
+      w .1 ∙ message-written kind own view ballot proven mask one two p q out
+          ∙ ap₂ (λ (x y : List ℕ). written (message kind own view ballot proven mask x y) out) e f,
+    )

@@ -128,34 +128,40 @@ padded-is n [] p = rw sub-zero (zeros-padded n)
 padded-is zero (c ∷ l) p = absurd (omega arith)
 padded-is (suc n) (c ∷ l) p = rw suc-sub-suc (ap (λ (r : List ℕ). c ∷ r) (padded-is n l (omega arith)))
 
+abbrev pub headed : ℕ → ℕ → View → Ballot → Ballot → ℕ → List ℕ → List ℕ → Heading
+headed kind own view ballot proven mask h k =
+    record {
+      found = true;
+      kind = kind;
+      sender = own;
+      view = view;
+      ballot = ballot;
+      proven = proven;
+      mask = mask;
+      n = length h;
+      m = length k;
+    }
+
 -- what is written of them is what is written of the message
 module _ (kind own : ℕ) (view : View) (ballot proven : Ballot) (mask : ℕ) (h k : List ℕ) (p : length h ≤ limit) (q : length k ≤ limit) (out : List ℕ) where
-  abbrev pub headed : Heading
-  headed =
-      record {
-        found = true;
-        kind = kind;
-        sender = own;
-        view = view;
-        ballot = ballot;
-        proven = proven;
-        mask = mask;
-        n = length h;
-        m = length k;
-      }
+  heading : Heading
+  heading = headed kind own view ballot proven mask h k
 
-  are-listed : listed headed h k ≡ true
-  unfolding listed
+  are-listed : listed heading h k ≡ true
+  unfolding listed heading
   are-listed = rw (eq-eqb (length h) (length h) refl, eq-eqb (length k) (length k) refl)
 
-  same-frame : frameFrom headed h k ≡ message kind own view ballot proven mask h k
-  same-frame = ap (frameWith headed) (padded-is capacity (h ++ k) (omega (arith, length-append h k)))
+  same-frame : frameFrom heading h k ≡ message kind own view ballot proven mask h k
+  unfolding heading
+  same-frame = ap (frameWith heading) (padded-is capacity (h ++ k) (omega (arith, length-append h k)))
 
-  pub message-length : lengthFrom headed h k out ≡ writtenLength (message kind own view ballot proven mask h k) out
-  message-length = from-listed headed h k out are-listed .0 ∙ ap (λ (f : Frame). writtenLength f out) same-frame
+  pub message-length : lengthFrom (headed kind own view ballot proven mask h k) h k out ≡ writtenLength (message kind own view ballot proven mask h k) out
+  unfolding heading
+  message-length = from-listed heading h k out are-listed .0 ∙ ap (λ (f : Frame). writtenLength f out) same-frame
 
-  pub message-written : writtenFrom headed h k out ≡ written (message kind own view ballot proven mask h k) out
-  message-written = from-listed headed h k out are-listed .1 ∙ ap (λ (f : Frame). written f out) same-frame
+  pub message-written : writtenFrom (headed kind own view ballot proven mask h k) h k out ≡ written (message kind own view ballot proven mask h k) out
+  unfolding heading
+  message-written = from-listed heading h k out are-listed .1 ∙ ap (λ (f : Frame). written f out) same-frame
 
 -- ---- the lists of a message
 

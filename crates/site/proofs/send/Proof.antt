@@ -1,42 +1,34 @@
+-- `site::send` meets its contract: what is written of the heading and the two lists that were cut is what is written of the message.
+use Rattle.site.proofs.Frames.{cut-fits, message-sent}
+use borrow.Author.Tests.{not-true, not-false}
+use mathlib.Core.Path.{refl}
 use borrow.Author.Needs.{needs}
 use Rattle.site.proofs.send.Statement.{statement}
 use Rattle.site.proofs.send.Tie as tie
-use Rattle.site.proofs.send.Reads as reads
-use Rattle.site.proofs.send.Lts as lts
-use Rattle.frame.proofs.write_from.Reads as write-from-reads
-use Rattle.history.proofs.first.Reads as first-reads
 
--- src/lib.rt:84:9
 returns : tie.Need-returns
-returns c = ?
+returns c = rw (not-true (c .before .before .before .before .args .sent) (c .if1 .taken)) (refl, refl)
 
--- src/lib.rt:86:9
 first-requires : tie.Need-first-requires
 first-requires c κs = search needs
 
--- src/lib.rt:87:9
 first-requires-2 : tie.Need-first-requires-2
 first-requires-2 c κs = search needs
 
--- src/lib.rt:96:12
 cast-t16 : tie.Need-cast-t16
-cast-t16 c = ?
+cast-t16 c = record { fits = cut-fits (c .before .before .before .before .before .before .args .g .now) _ (c .before .first .ensures) }
 
--- src/lib.rt:97:12
 cast-t18 : tie.Need-cast-t18
-cast-t18 c = ?
+cast-t18 c = record { fits = cut-fits (c .before .before .before .before .before .before .args .h .now) _ (c .first2 .ensures) }
 
--- src/lib.rt:99:5
 write-from-requires : tie.Need-write-from-requires
 write-from-requires c κs = search needs
 
--- src/lib.rt:69:1
 same-length : tie.Need-same-length
 same-length c = search needs
 
--- src/lib.rt:69:1
 returns-2 : tie.Need-returns-2
-returns-2 c = ?
+returns-2 c = rw (not-false (c .before .before .before .before .before .before .before .before .before .before .args .sent) (c .before .before .before .before .before .before .if1 .left)) (message-sent _ _ _ _ _ _ (c .before .before .before .before .before .before .before .before .before .before .args .g .now) (c .before .before .before .before .before .before .before .before .before .before .args .h .now) _ _ _ (c .before .before .before .before .before .first .ensures) (c .before .before .before .before .first2 .ensures) _ _ (c .before .before .write-from .ensures))
 
 pub send-spec : {M : Type 1} → statement M
 send-spec =
