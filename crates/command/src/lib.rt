@@ -23,11 +23,24 @@ const KINDS_CONFLICT: [[bool; 4]; 4] = [
     [NO, YES, YES, NO], // RAISE
 ];
 
+// Proposer and serial as words, in which two commands are compared by one test of their bits.
+fn proposer_word(c: u64) -> u64
+    ensures { λ r. ⌜ r ≡ spec.proposer c ⌝ }
+{
+    c >> 56
+}
+
+fn serial_word(c: u64) -> u64
+    ensures { λ r. ⌜ r ≡ spec.serial c ⌝ }
+{
+    (c >> 32) % 65536
+}
+
 // The fields of a command.
 pub fn proposer(c: u64) -> u8
     ensures { λ r. ⌜ r ≡ spec.proposer c ⌝ }
 {
-    (c >> 56) as u8
+    proposer_word(c) as u8
 }
 
 pub fn kind(c: u64) -> u8
@@ -39,7 +52,7 @@ pub fn kind(c: u64) -> u8
 pub fn serial(c: u64) -> u16
     ensures { λ r. ⌜ r ≡ spec.serial c ⌝ }
 {
-    ((c >> 32) % 65536) as u16
+    serial_word(c) as u16
 }
 
 pub fn slot(c: u64) -> u16
@@ -114,8 +127,8 @@ pub fn all_by(by: u8, h: &[u64]) -> bool
 pub fn same_request(c: u64, d: u64) -> bool
     ensures { λ r. ⌜ r ≡ spec.sameRequest c d ⌝ }
 {
-    let same_proposer = proposer(c) == proposer(d);
-    let same_serial = serial(c) == serial(d);
+    let same_proposer = proposer_word(c) == proposer_word(d);
+    let same_serial = serial_word(c) == serial_word(d);
     same_proposer & same_serial
 }
 
