@@ -30,7 +30,7 @@ pub fn same(g: &[u64], h: &[u64]) -> bool
 
 // How many first words h and g have in common.
 pub fn common(h: &[u64], g: &[u64]) -> usize
-    ensures { λ r. ⌜ (r ≤ length (now (h .entry))) × (r ≤ length (now (g .entry))) × (take r (now (h .entry)) ≡ take r (now (g .entry))) ⌝ }
+    ensures { λ r. ⌜ spec.Common (now (h .entry)) (now (g .entry)) r ⌝ }
 {
     let mut i: usize = 0;
     while i < g.len() {

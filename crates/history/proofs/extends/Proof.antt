@@ -27,12 +27,12 @@ common-requires c κs = search needs
 extends-past-requires : tie.Need-extends-past-requires
 extends-past-requires c κs =
     let short : length (c .before .before .before .before .before .before .args .h .now) ≤ 64 = leb-true _ _ (not-false _ (c .before .before .before .if1 .left)) in
-    (short, c .before .common .ensures .0, c .before .common .ensures .1, c .before .common .ensures .2)
+    (short, c .before .common .ensures .first, c .before .common .ensures .second, c .before .common .ensures .same)
 
 returns-3 : tie.Need-returns-3
 returns-3 c =
     let same : take (length (c .before .before .before .before .before .before .args .g .now)) (c .before .before .before .before .before .before .args .h .now) ≡ c .before .before .before .before .before .before .args .g .now =
-    (rw (c .if3 .taken) at (c .before .common .ensures .2)) ∙ take-length (c .before .before .before .before .before .before .args .g .now) in
+    (rw (c .if3 .taken) at (c .before .common .ensures .same)) ∙ take-length (c .before .before .before .before .before .before .args .g .now) in
     rw (not-false (leb (length (c .before .before .before .before .before .before .args .h .now)) 64) (c .before .before .before .if1 .left), extends-first _ _ same)
 
 returns-4 : tie.Need-returns-4

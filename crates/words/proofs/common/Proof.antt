@@ -19,7 +19,7 @@ loop-holds : tie.Need-loop-holds Inv-loop μ-loop
 loop-holds c = (search needs, search needs, refl)
 
 returns : tie.Need-returns Inv-loop μ-loop
-returns c = c .before .before .loop .inv
+returns c = record { first = c .before .before .loop .inv .0; second = c .before .before .loop .inv .1; same = c .before .before .loop .inv .2; differ = λ p q e. omega arith }
 
 mul-if2 : tie.Need-mul-if2 Inv-loop μ-loop
 mul-if2 c = search needs
@@ -34,7 +34,7 @@ shared-slice-read-if2-2 : tie.Need-shared-slice-read-if2-2 Inv-loop μ-loop
 shared-slice-read-if2-2 c = search needs
 
 returns-2 : tie.Need-returns-2 Inv-loop μ-loop
-returns-2 c = c .before .before .before .before .before .loop .inv
+returns-2 c = record { first = c .before .before .before .before .before .loop .inv .0; second = c .before .before .before .before .before .loop .inv .1; same = c .before .before .before .before .before .loop .inv .2; differ = λ p q e. c .if2 .taken e }
 
 add-i : tie.Need-add-i Inv-loop μ-loop
 add-i c = search needs
@@ -46,7 +46,7 @@ loop-again : tie.Need-loop-again Inv-loop μ-loop
 loop-again c = (search needs, search needs, common-more _ _ (c .before .before .before .before .before .loop .i) (omega arith) (omega arith) (c .if2 .left) (c .before .before .before .before .before .loop .inv .2))
 
 returns-3 : tie.Need-returns-3 Inv-loop μ-loop
-returns-3 c = c .before .loop .inv
+returns-3 c = record { first = c .before .loop .inv .0; second = c .before .loop .inv .1; same = c .before .loop .inv .2; differ = λ p q e. omega arith }
 
 pub common-spec : {M : Type 1} → statement M
 common-spec =
