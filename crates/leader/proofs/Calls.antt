@@ -1,6 +1,6 @@
 -- What a call returns and leaves in the buffer, in the words of the definitions.
 use mathlib.Core.Path.{_≡_, refl, sym, ap, subst, _∙_}
-use mathlib.Core.Bool.{Bool, true, false, not, true≢false}
+use mathlib.Core.Bool.{Bool, true, false, not, _&&_, true≢false}
 use mathlib.Core.List.{List, [], _∷_, _++_, append-nil}
 use Prim.Native.Nat.{ℕ, zero, suc, min, _-_, _≤_}
 use native.Mathlib.Omega.{arith}
@@ -35,11 +35,12 @@ use Rattle.site.specs.Message.{message}
 use Rattle.site.specs.Reply.{Reply, sendsIf, lengthSent, buffer}
 use Rattle.leader.specs.declared.State.{State}
 use Rattle.leader.specs.declared.Marks.{Marks}
+use Rattle.leader.specs.declared.Settled.{Settled}
 use Rattle.leader.specs.declared.Heading.{Heading}
 use Rattle.leader.specs.declared.Outcome.{Outcome}
 use Rattle.leader.specs.Leader as leader
 use Rattle.leader.specs.Leader.{P1B, taken, marksOf, pendingOf, reporting, reportIn, proposed, conclude, accepted, step, mayOpen, inBallot, invitation, opening}
-use Rattle.leader.specs.Parts.{listOf, stateOf, frameOf, headingOf, Done, isAccepted, answerIn, settled, sendsP2a}
+use Rattle.leader.specs.Parts.{listOf, stateOf, frameOf, headingOf, Done, isAccepted, answerIn, settled, marksAfter, pendingAfter, sendsP2a}
 use Rattle.leader.specs.PartsLaws.{settled-step}
 
 -- ---- the pending commands in place
@@ -143,41 +144,52 @@ module _ (r : Roster) (own : ℕ) (s : State) (out : List ℕ) where
 
 -- ---- what an answer does
 
+-- b says whether it accepts
 module _ (r : Roster) (own : ℕ) (s : State) (m : Frame) (out : List ℕ) where
-  pub refuses : (a : Answer) → isAccepted a ≡ false → Done (settled r own s a m) out (record { answer = a; sent = 0; state = s }) out
-  unfolding settled
-  refuses Accepted p = absurd (true≢false p)
-  refuses (Refused e) p = (refl, refl)
-
-  pub reports : (a : Answer) → isAccepted a ≡ true → eqb (m .kind) 3 ≡ true → (o : Outcome) (l : List ℕ) → Done (accepted P1B r own s m) out o l
+  pub reports : (a : Answer) (b : Bool) → b ≡ isAccepted a → (b && eqb (m .kind) 3) ≡ true → (o : Outcome) (l : List ℕ) → Done (accepted P1B r own s m) out o l
       → Done (settled r own s a m) out o l
   unfolding settled
-  reports Accepted p e o l d = rw e d
-  reports (Refused x) p e o l d = absurd (true≢false (sym p))
+  reports Accepted b x e o l d = rw (rw x at e) d
+  reports (Refused _) b x e o l d = absurd (true≢false (sym (rw x at e)))
 
-  pub requests : (a : Answer) → isAccepted a ≡ true → eqb (m .kind) 3 ≡ false → eqb (m .kind) 4 ≡ true → (h : List ℕ) (p : History) → h ≡ first m
-      → p ≡ stored (appended (pendingOf s) h)
+  -- no report: k is what is returned, and p what is pending
+  pub settles : (a : Answer) (b : Bool) → b ≡ isAccepted a → (b && eqb (m .kind) 3) ≡ false → (k : Settled) (p : History)
+      → (k ≡ record { answer = a; sent = 0; marks = marksAfter a (marksOf s) m }) × (p ≡ pendingAfter a (s .pending) m)
       → Done (settled r own s a m) out
       (record {
-        answer = a;
-        sent = 0;
-        state = record { view = s .view; ballot = s .ballot; classic = s .classic; pending = p; reported = s .reported; proven = s .proven; held = s .held };
+        answer = k .answer;
+        sent = k .sent;
+        state = record {
+          view = k .marks .view;
+          ballot = k .marks .ballot;
+          classic = k .marks .classic;
+          pending = p;
+          reported = k .marks .reported;
+          proven = s .proven;
+          held = s .held;
+        };
       }) out
   unfolding settled
-  requests Accepted x e f h p eh ep = (rw (e, f, ep, eh), rw (e, f))
-  requests (Refused _) x e f h p eh ep = absurd (true≢false (sym x))
-
-  pub elects : (a : Answer) → isAccepted a ≡ true → eqb (m .kind) 3 ≡ false → eqb (m .kind) 4 ≡ false → (k : Marks)
-      → k ≡ record { view = m .view; ballot = s .ballot; classic = s .classic; reported = s .reported }
-      → Done (settled r own s a m) out
-      (record {
-        answer = a;
-        sent = 0;
-        state = record { view = k .view; ballot = k .ballot; classic = k .classic; pending = s .pending; reported = k .reported; proven = s .proven; held = s .held };
-      }) out
-  unfolding settled
-  elects Accepted x e f k ek = (rw (e, f, ek), rw (e, f))
-  elects (Refused _) x e f k ek = absurd (true≢false (sym x))
+  settles (Refused _) b x e k p z = (rw (z .0, z .1), refl)
+  settles Accepted b x e k p z = go (rw x at e) (eqb (m .kind) 4) refl
+    where
+      go : eqb (m .kind) 3 ≡ false → (c : Bool) → eqb (m .kind) 4 ≡ c
+          → Done (settled r own s Accepted m) out
+          (record {
+            answer = k .answer;
+            sent = k .sent;
+            state = record {
+              view = k .marks .view;
+              ballot = k .marks .ballot;
+              classic = k .marks .classic;
+              pending = p;
+              reported = k .marks .reported;
+              proven = s .proven;
+              held = s .held;
+            };
+          }) out
+      go e true f = (rw (z .0, z .1, e, f), rw (e, f))
+      go e false f = (rw (z .0, z .1, e, f), rw (e, f))
 
 -- ---- a line: d is what reading it found, f the heading of its frame, a the answer, o what is returned and l the buffer
 

@@ -1,6 +1,6 @@
 -- How the code computes a step: on the parts of a state, the answer first, and then what the answer does.
 use mathlib.Core.Path.{_≡_}
-use mathlib.Core.Bool.{Bool, true, false, not}
+use mathlib.Core.Bool.{Bool, true, false, not, cond, _&&_}
 use mathlib.Core.List.{List, [], _∷_}
 use Prim.Native.Nat.{ℕ, _≤_}
 use lib.Dec.{eqb}
@@ -9,7 +9,8 @@ use Rattle.roster.specs.declared.Roster.{Roster}
 use Rattle.roster.specs.declared.View.{View}
 use Rattle.roster.specs.declared.Ballot.{Ballot}
 use Rattle.history.specs.declared.History.{History}
-use Rattle.history.specs.Words.{limit}
+use Rattle.history.specs.Words.{limit, commands, stored}
+use Rattle.merge.specs.Merge.{appended}
 use Rattle.table.specs.Table.{tableOf}
 use Rattle.refusal.specs.declared.Refusal.the-variants.{Config, Form}
 use Rattle.refusal.specs.declared.Answer.{Answer}
@@ -109,6 +110,14 @@ isAccepted (Refused e) = false
 unfoldable pub settled : Roster → ℕ → State → Answer → Frame → Reply State
 settled r own s Accepted m = accepted (kindOf (m .kind)) r own s m
 settled r own s (Refused e) m = refuse s e
+
+-- where no report is accepted: the marks and the pending commands after it
+abbrev pub marksAfter : Answer → Marks → Frame → Marks
+marksAfter a k m =
+    cond (isAccepted a && not (eqb (m .kind) 4)) (record { view = m .view; ballot = k .ballot; classic = k .classic; reported = k .reported }) k
+
+abbrev pub pendingAfter : Answer → History → Frame → History
+pendingAfter a p m = cond (isAccepted a && eqb (m .kind) 4) (stored (appended (commands p) (first m))) p
 
 -- the P2A of a proposal that is not empty
 abbrev pub sendsP2a : ℕ → View → Ballot → List ℕ → Sending

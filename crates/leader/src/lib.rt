@@ -437,19 +437,6 @@ fn reporting(marks: Marks, site: u8) -> Marks
     }
 }
 
-// The marks in another view.
-fn in_view(marks: Marks, view: View) -> Marks
-    ensures { λ k. ⌜ k ≡ record { view = view; ballot = marks .ballot; classic = marks .classic; reported = marks .reported } ⌝ }
-{
-    let ballot = marks.ballot;
-    Marks {
-        view,
-        ballot,
-        classic: marks.classic,
-        reported: marks.reported,
-    }
-}
-
 // Takes a report: stores its proven history g and its held history h, and proposes if it is report N-f.
 fn collect<'a>(
     r: Roster,
@@ -487,23 +474,16 @@ fn collect<'a>(
     )
 }
 
-// Does what an answer to a frame says: a refused one touches nothing.
+// Does what an answer to a frame that is no accepted report says: appends the commands that are requested, or takes the view that elects this site.
 fn settle(
-    r: Roster,
-    own: u8,
     marks: Marks,
     answer: Answer,
     f: Heading,
     words: &[u64],
     count: &mut u8,
     pending: &mut [u64; 32],
-    pcounts: &mut [u8; 16],
-    proven: &mut [u64; 512],
-    hcounts: &mut [u8; 16],
-    held: &mut [u64; 512],
-    out: &mut [u8],
 ) -> Settled
-    ensures { λ o. ⌜ parts.Done (parts.settled r own (parts.stateOf marks (now (count .entry)) (now (pending .entry)) (now (pcounts .entry)) (now (proven .entry)) (now (hcounts .entry)) (now (held .entry))) answer (parts.frameOf f (now (words .entry)))) (now (out .entry)) (parts.outcomeOf o (now (count .exit)) (now (pending .exit)) (now (pcounts .exit)) (now (proven .exit)) (now (hcounts .exit)) (now (held .exit))) (now (out .exit)) ⌝ }
+    ensures { λ o. ⌜ (o ≡ record { answer = answer; sent = 0; marks = parts.marksAfter answer marks (parts.frameOf f (now (words .entry))) }) × (parts.listOf (now (count .exit)) (now (pending .exit)) ≡ parts.pendingAfter answer (parts.listOf (now (count .entry)) (now (pending .entry))) (parts.frameOf f (now (words .entry)))) ⌝ }
 {
     let accepted = accepts(answer);
     if !accepted {
@@ -512,23 +492,6 @@ fn settle(
             sent: 0,
             marks,
         };
-    }
-    let report = f.kind == P1B;
-    if report {
-        return collect(
-            r,
-            own,
-            marks,
-            f,
-            words,
-            count,
-            pending,
-            pcounts,
-            proven,
-            hcounts,
-            held,
-            out,
-        );
     }
     let request = f.kind == PROPOSE;
     if request {
@@ -539,11 +502,17 @@ fn settle(
             marks,
         };
     }
-    let now = in_view(marks, f.view);
+    let view = f.view;
+    let ballot = marks.ballot;
     Settled {
         answer,
         sent: 0,
-        marks: now,
+        marks: Marks {
+            view,
+            ballot,
+            classic: marks.classic,
+            reported: marks.reported,
+        },
     }
 }
 
@@ -590,41 +559,39 @@ pub fn step_in_place(
     let f = Heading::of(m);
     let words: &[u64] = &m.words;
     let room = out.len();
-    let pending_words: &[u64] = pending;
-    let proven_lens: &[u8] = pcounts;
-    let proven_words: &[u64] = proven;
-    let held_lens: &[u8] = hcounts;
-    let held_words: &[u64] = held;
     let answer = check(
         r,
         own,
         room,
         marks,
         *count,
-        pending_words,
-        proven_lens,
-        proven_words,
-        held_lens,
-        held_words,
-        reading.found,
-        f,
-        words,
-    );
-    settle(
-        r,
-        own,
-        marks,
-        answer,
-        f,
-        words,
-        count,
         pending,
         pcounts,
         proven,
         hcounts,
         held,
-        out,
-    )
+        reading.found,
+        f,
+        words,
+    );
+    let report = accepts(answer) & (f.kind == P1B);
+    if report {
+        return collect(
+            r,
+            own,
+            marks,
+            f,
+            words,
+            count,
+            pending,
+            pcounts,
+            proven,
+            hcounts,
+            held,
+            out,
+        );
+    }
+    settle(marks, answer, f, words, count, pending)
 }
 
 // Whether this site may open a ballot: one above its last, in a view that it leads.
@@ -682,22 +649,17 @@ pub fn open_in_place(
     ensures { λ o. ⌜ parts.Done (spec.opening r own (length (now (out .entry))) (parts.stateOf marks (now (count .entry)) (now (pending .entry)) (now (pcounts .entry)) (now (proven .entry)) (now (hcounts .entry)) (now (held .entry))) ballot fast) (now (out .entry)) (parts.outcomeOf o (now (count .exit)) (now (pending .exit)) (now (pcounts .exit)) (now (proven .exit)) (now (hcounts .exit)) (now (held .exit))) (now (out .exit)) ⌝ }
 {
     let room = out.len();
-    let pending_words: &[u64] = pending;
-    let proven_lens: &[u8] = pcounts;
-    let proven_words: &[u64] = proven;
-    let held_lens: &[u8] = hcounts;
-    let held_words: &[u64] = held;
     let unfit = config(
         r,
         own,
         room,
         marks,
         *count,
-        pending_words,
-        proven_lens,
-        proven_words,
-        held_lens,
-        held_words,
+        pending,
+        pcounts,
+        proven,
+        hcounts,
+        held,
     );
     if unfit {
         return Settled {
