@@ -437,8 +437,8 @@ fn reporting(marks: Marks, site: u8) -> Marks
     }
 }
 
-// Takes a report: stores its proven history g and its held history h, and proposes if it is report N-f.
-fn collect<'a>(
+// Takes a report: stores its two histories, and proposes if it is report N-f.
+fn collect(
     r: Roster,
     own: u8,
     marks: Marks,
@@ -474,7 +474,7 @@ fn collect<'a>(
     )
 }
 
-// Does what an answer to a frame that is no accepted report says: appends the commands that are requested, or takes the view that elects this site.
+// Does what an answer says, except to a report that is accepted: appends the requested commands, or takes the view that this site is to lead.
 fn settle(
     marks: Marks,
     answer: Answer,
