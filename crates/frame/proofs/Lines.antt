@@ -19,7 +19,7 @@ use Rattle.frame.specs.Layout.{commandWidth, limit, capacity, widths, wi
 use Rattle.frame.specs.Kinds.{uses, isKind, zeroUnless, unusedZero}
 use Rattle.frame.specs.Format.{commands, lineFeed, proper, padded, framed, frameOf, isLine, nothing, readingOf, readingWith}
 use Rattle.frame.specs.FormatLaws.{total-commands, fit-length}
-use Rattle.frame.specs.Leaves.{NumbersIn, properHeader, Headed, HeadIn, headingOf, noHeading, bodyGood, bodyReading, BodyIn}
+use Rattle.frame.specs.Leaves.{NumbersIn, properHeader, Fitting, Headed, Counted, Found, HeadIn, headingOf, noHeading, bodyGood, bodyReading, BodyIn}
 use Rattle.frame.specs.Tests.{and-left, and-right}
 
 -- a number that fits, among others
@@ -64,137 +64,107 @@ header-fits l long d k h =
     fit-at widths (numbers widths l)
     (ap (allFit widths) (sym (numbers-take widths l 36 (le-refl 36))) ∙ numbers-fit widths (take 36 l) (length-take-le 36 l (omega arith)) d) k h
 
-module _ (l h : List ℕ) (inv : Headed l h) where
-  unfolded-long : 37 ≤ length l
-  unfolding total
-  unfolded-long = inv .long
-
+module _ (l : List ℕ) (inv : Headed l) where
   -- each fits its width
-  pub head-fits : (k : ℕ) → k < 8 → getD h k 0 < 256 ^ getD widths k 0
+  pub head-fits : (k : ℕ) → k < 8 → getD (numbers widths l) k 0 < 256 ^ getD widths k 0
   unfolding total
-  head-fits k p = subst (λ (xs : List ℕ). getD xs k 0 < 256 ^ getD widths k 0) (sym (inv .spelled-values)) (header-fits l (inv .long) (inv .spelled) k p)
+  head-fits k p = header-fits l (inv .long) (inv .spelled) k p
 
-  counts : (leb (getD h 6 0) limit && leb (getD h 7 0) limit) ≡ true
-  unfolding properHeader
-  counts =
-      let c = leb (getD h 6 0) limit && leb (getD h 7 0) limit in
-      let z = zeroUnless (getD uses (getD h 0 0) []) h in
-      and-left c z (and-right (isKind (getD h 0 0)) (c && z) (inv .proper))
+  -- the counts, as the code has them
+  module _ (n m : ℕ) (are : Counted l n m) where
+    few : (leb n limit && leb m limit) ≡ true
+    unfolding properHeader
+    few =
+        let h = numbers widths l in
+        let c = leb (getD h 6 0) limit && leb (getD h 7 0) limit in
+        let z = zeroUnless (getD uses (getD h 0 0) []) h in
+        ap₂ (λ (x y : ℕ). leb x limit && leb y limit) (are .first) (are .second) ∙ and-left c z (and-right (isKind (getD h 0 0)) (c && z) (inv .proper))
 
-  pub head-n : getD h 6 0 ≤ 32
-  head-n = leb-true (getD h 6 0) 32 (and-left (leb (getD h 6 0) 32) (leb (getD h 7 0) 32) counts)
+    pub head-n : n ≤ 32
+    head-n = leb-true n 32 (and-left (leb n 32) (leb m 32) few)
 
-  pub head-m : getD h 7 0 ≤ 32
-  head-m = leb-true (getD h 7 0) 32 (and-right (leb (getD h 6 0) 32) (leb (getD h 7 0) 32) counts)
+    pub head-m : m ≤ 32
+    head-m = leb-true m 32 (and-right (leb n 32) (leb m 32) few)
 
-  held : ℕ
-  held = getD h 6 0 + getD h 7 0
+    -- there are words enough
+    pub words-enough : {ws : List ℕ} → ws ≡ replicate 64 0 → n + m ≤ length ws
+    words-enough e = omega (arith, head-n, head-m, ap length e)
 
-  -- there are words enough
-  pub words-enough : {ws : List ℕ} → ws ≡ replicate 64 0 → getD h 6 0 + getD h 7 0 ≤ length ws
-  words-enough e = omega (arith, head-n, head-m, ap length e)
+    pub words-room : {ws : List ℕ} → ws ≡ replicate 64 0 → length (take (n + m) ws) ≡ n + m
+    words-room {ws} e = length-take-le (n + m) ws (words-enough e)
 
-  pub words-room : {ws : List ℕ} → ws ≡ replicate 64 0 → length (take (getD h 6 0 + getD h 7 0) ws) ≡ getD h 6 0 + getD h 7 0
-  words-room {ws} e = length-take-le (getD h 6 0 + getD h 7 0) ws (words-enough e)
+    pub counted : count (frameOf l) ≡ n + m
+    unfolding frameOf framed
+    counted = sym (ap₂ _+_ (are .first) (are .second))
 
-  held-is : count (frameOf l) ≡ held
-  unfolding held frameOf framed
-  held-is = ap (λ (xs : List ℕ). getD xs 6 0 + getD xs 7 0) (sym (inv .spelled-values))
-
-  pub counted : count (frameOf l) ≡ getD h 6 0 + getD h 7 0
-  unfolding held
-  counted = held-is
-
-  size-is : lineLength (count (frameOf l)) ≡ 36 + 16 * held + 1
-  unfolding total
-  size-is = omega (arith, held-is)
-
-  -- ---- after the header: the length, the line feed, and the digits of the commands
-
-  last : ℕ
-  last = 36 + 16 * held
-
-  bad : bodyGood l ≡ false → nothing ≡ bodyReading l
-  unfolding bodyReading
-  bad e = sym (ap (λ (b : Bool). cond b (record { found = true; frame = frameOf l }) nothing) e)
-
-  pub wrong-length : (length l ≡ 36 + 16 * (getD h 6 0 + getD h 7 0) + 1 → ⊥) → nothing ≡ bodyReading l
-  unfolding bodyGood held
-  wrong-length e = bad (rw (ne-eqb (length l) (lineLength (count (frameOf l))) (λ p. e (p ∙ size-is))))
-
-  module _ (size : length l ≡ 36 + 16 * (getD h 6 0 + getD h 7 0) + 1) where
-    right-length : eqb (length l) (lineLength (count (frameOf l))) ≡ true
-    unfolding held
-    right-length = eq-eqb (length l) (lineLength (count (frameOf l))) (size ∙ sym size-is)
-
-    -- and the digits are those of as many commands
-    pub digits-room : {ws : List ℕ} → ws ≡ replicate 64 0
-        → length (take (36 + 16 * (getD h 6 0 + getD h 7 0) - 36) (drop 36 l)) ≡ 16 * length (take (getD h 6 0 + getD h 7 0) ws)
-    digits-room e =
-        let k = getD h 6 0 + getD h 7 0 in
-        length-take-le (36 + 16 * k - 36) (drop 36 l) (omega (arith, length-drop 36 l)) ∙ omega (arith, words-room e)
-
-    at-last : length l - 1 ≡ last
-    unfolding last held
-    at-last = omega arith
-
-    command-part : take (length l - 1 - 2 * total widths) (drop (2 * total widths) l) ≡ take (last - 36) (drop 36 l)
+    size-is : lineLength (count (frameOf l)) ≡ 36 + 16 * (n + m) + 1
     unfolding total
-    command-part = ap (λ (n : ℕ). take (n - 36) (drop 36 l)) at-last
+    size-is = omega (arith, counted)
 
-    pub no-feed : (getD l (36 + 16 * (getD h 6 0 + getD h 7 0)) 0 ≡ 10 → ⊥) → nothing ≡ bodyReading l
-    unfolding bodyGood last held
-    no-feed e =
-        bad
-        (ap₂ (λ (a b : Bool). a && (b && allDigits (take (length l - 1 - 2 * total widths) (drop (2 * total widths) l))))
-        right-length
-        (ne-eqb (getD l (length l - 1) 0) lineFeed (λ p. e (ap (λ (n : ℕ). getD l n 0) (sym at-last) ∙ p))))
+    -- ---- after the header: the length, the line feed, and the digits of the commands
 
-    module _ (feed : getD l (36 + 16 * (getD h 6 0 + getD h 7 0)) 0 ≡ 10) where
-      right-feed : eqb (getD l (length l - 1) 0) lineFeed ≡ true
-      unfolding last held
-      right-feed = eq-eqb (getD l (length l - 1) 0) lineFeed (ap (λ (n : ℕ). getD l n 0) at-last ∙ feed)
+    last : ℕ
+    last = 36 + 16 * (n + m)
 
-      good-is : bodyGood l ≡ allDigits (take (last - 36) (drop 36 l))
-      unfolding bodyGood
-      good-is =
-          ap₂ (λ (a b : Bool). a && (b && allDigits (take (length l - 1 - 2 * total widths) (drop (2 * total widths) l)))) right-length right-feed
-          ∙ ap allDigits command-part
+    pub wrong-length : (length l ≡ 36 + 16 * (n + m) + 1 → ⊥) → false ≡ bodyGood l
+    unfolding bodyGood
+    wrong-length e = rw (ne-eqb (length l) (lineLength (count (frameOf l))) (λ p. e (p ∙ size-is)))
 
-      -- the commands as they are read, into n words of 64
-      module _ (n : ℕ) (e : n ≡ getD h 6 0 + getD h 7 0) (good : Bool) (ys : List ℕ) (r : NumbersIn (commands n) (take (36 + 16 * (getD h 6 0 + getD h 7 0) - 36) (drop 36 l)) good ys) where
-        pub not-digits : good ≡ false → nothing ≡ bodyReading l
-        unfolding last held
-        not-digits g = bad (good-is ∙ sym (r .all) ∙ g)
+    module _ (size : length l ≡ 36 + 16 * (n + m) + 1) where
+      right-length : eqb (length l) (lineLength (count (frameOf l))) ≡ true
+      right-length = eq-eqb (length l) (lineLength (count (frameOf l))) (size ∙ sym size-is)
 
-        words-are : good ≡ true → ys ++ drop (getD h 6 0 + getD h 7 0) (zeros 64) ≡ frameOf l .words
-        unfolding frameOf framed zeros total
-        words-are g =
-            let k = getD h 6 0 + getD h 7 0 in
-            let same : n ≡ count (frameOf l) = e ∙ ap (λ (xs : List ℕ). getD xs 6 0 + getD xs 7 0) (inv .spelled-values) in
-            let read : ys ≡ numbers (commands (count (frameOf l))) (drop 36 l) =
-            r .are g ∙ numbers-take (commands n) (drop 36 l) (36 + 16 * k - 36) (omega (arith, total-commands n))
-            ∙ ap (λ (m : ℕ). numbers (commands m) (drop 36 l)) same in
-            let left : 64 - k ≡ 64 - length (numbers (commands (count (frameOf l))) (drop 36 l)) =
-            omega (arith, length-numbers (commands (count (frameOf l))) (drop 36 l), length-replicate (count (frameOf l)) commandWidth, same) in
-            ap₂ (λ (s t : List ℕ). s ++ t) read (drop-zeros k 64 ∙ ap zeros left)
+      -- and the digits are those of as many commands
+      pub digits-room : {ws : List ℕ} → ws ≡ replicate 64 0 → length (take (36 + 16 * (n + m) - 36) (drop 36 l)) ≡ 16 * length (take (n + m) ws)
+      digits-room e = length-take-le (36 + 16 * (n + m) - 36) (drop 36 l) (omega (arith, length-drop 36 l)) ∙ omega (arith, words-room e)
 
-        pub body-found : good ≡ true → readingWith (headingOf h) (ys ++ drop (getD h 6 0 + getD h 7 0) (replicate 64 0)) ≡ bodyReading l
-        unfolding bodyReading frameOf framed zeros last held
-        body-found g =
-            ap (λ (f : Frame). record { found = true; frame = f }) (ap₂ withValues (inv .spelled-values) (words-are g))
-            ∙ sym (ap (λ (b : Bool). cond b (record { found = true; frame = frameOf l }) nothing) (good-is ∙ sym (r .all) ∙ g))
+      at-last : length l - 1 ≡ last
+      unfolding last
+      at-last = omega arith
 
-        pub some-body : good ≡ true → {hd : Heading} {ws : List ℕ} → hd ≡ headingOf h → ws ≡ replicate 64 0 → BodyIn l hd (ys ++ drop (getD h 6 0 + getD h 7 0) ws)
-        some-body g e z =
-            record {
-              some = λ p. ap₂ (λ (x : Heading) (t : List ℕ). readingWith x (ys ++ drop (getD h 6 0 + getD h 7 0) t)) e z ∙ body-found g;
-              none = λ p. absurd (true≢false (sym (ap (λ (x : Heading). x .found) e) ∙ p));
-            }
+      command-part : take (length l - 1 - 2 * total widths) (drop (2 * total widths) l) ≡ take (last - 36) (drop 36 l)
+      unfolding total
+      command-part = ap (λ (k : ℕ). take (k - 36) (drop 36 l)) at-last
 
--- where a test fails, nothing is found
-pub no-body : {l ws : List ℕ} {hd : Heading} → hd ≡ noHeading → nothing ≡ bodyReading l → BodyIn l hd ws
-no-body e f = record { some = λ p. absurd (true≢false (sym p ∙ ap (λ (x : Heading). x .found) e)); none = λ p. f }
+      pub no-feed : (getD l (36 + 16 * (n + m)) 0 ≡ 10 → ⊥) → false ≡ bodyGood l
+      unfolding bodyGood last
+      no-feed e =
+          sym
+          (ap₂ (λ (a b : Bool). a && (b && allDigits (take (length l - 1 - 2 * total widths) (drop (2 * total widths) l))))
+          right-length
+          (ne-eqb (getD l (length l - 1) 0) lineFeed (λ p. e (ap (λ (k : ℕ). getD l k 0) (sym at-last) ∙ p))))
+
+      module _ (feed : getD l (36 + 16 * (n + m)) 0 ≡ 10) where
+        right-feed : eqb (getD l (length l - 1) 0) lineFeed ≡ true
+        unfolding last
+        right-feed = eq-eqb (getD l (length l - 1) 0) lineFeed (ap (λ (k : ℕ). getD l k 0) at-last ∙ feed)
+
+        pub good-is : bodyGood l ≡ allDigits (take (36 + 16 * (n + m) - 36) (drop 36 l))
+        unfolding bodyGood last
+        good-is =
+            ap₂ (λ (a b : Bool). a && (b && allDigits (take (length l - 1 - 2 * total widths) (drop (2 * total widths) l)))) right-length right-feed
+            ∙ ap allDigits command-part
+
+        -- the commands as they are read, into k words of 64
+        module _ (k : ℕ) (e : k ≡ n + m) (good : Bool) (ys : List ℕ) (r : NumbersIn (commands k) (take (36 + 16 * (n + m) - 36) (drop 36 l)) good ys) where
+          words-are : good ≡ true → ys ++ drop (n + m) (zeros 64) ≡ frameOf l .words
+          unfolding frameOf framed zeros total
+          words-are g =
+              let same : k ≡ count (frameOf l) = e ∙ sym counted in
+              let read : ys ≡ numbers (commands (count (frameOf l))) (drop 36 l) =
+              r .are g ∙ numbers-take (commands k) (drop 36 l) (36 + 16 * (n + m) - 36) (omega (arith, total-commands k))
+              ∙ ap (λ (j : ℕ). numbers (commands j) (drop 36 l)) same in
+              let left : 64 - (n + m) ≡ 64 - length (numbers (commands (count (frameOf l))) (drop 36 l)) =
+              omega (arith, length-numbers (commands (count (frameOf l))) (drop 36 l), length-replicate (count (frameOf l)) commandWidth, same) in
+              ap₂ (λ (s t : List ℕ). s ++ t) read (drop-zeros (n + m) 64 ∙ ap zeros left)
+
+          pub body-in : {ws : List ℕ} → ws ≡ replicate 64 0 → BodyIn l good (ys ++ drop (n + m) ws)
+          unfolding zeros
+          body-in z = record { is = r .all ∙ sym good-is; words = λ g. ap (λ (t : List ℕ). ys ++ drop (n + m) t) z ∙ words-are g }
+
+-- where a test fails, it is not good
+pub no-body : {l ws : List ℕ} → false ≡ bodyGood l → BodyIn l false ws
+no-body e = record { is = e; words = λ p. absurd (true≢false (sym p)) }
 
 -- ---- the line as a whole
 
@@ -240,18 +210,17 @@ module _ (l : List ℕ) (kinds : ℕ) where
       (ap (λ (b : Bool). cond (isLine l && b) (record { found = true; frame = frameOf l }) nothing) e
       ∙ ap (λ (b : Bool). cond b (record { found = true; frame = frameOf l }) nothing) (and-false (isLine l)))
 
-  pub whole-line : (h : List ℕ) → Headed l h → bit kinds (getD h 0 0) ≡ true → bodyReading l ≡ readingOf l kinds
+  pub whole-line : Headed l → bit kinds (getD (numbers widths l) 0 0) ≡ true → bodyReading l ≡ readingOf l kinds
   unfolding readingOf bodyReading bodyGood isLine total frameOf framed
-  whole-line h inv b =
+  whole-line inv b =
       let d = allDigits (take (length l - 1 - 36) (drop 36 l)) in
       let c = eqb (getD l (length l - 1) 0) lineFeed in
       let s = eqb (length l) (lineLength (count (frameOf l))) in
       let digits : allDigits (take (length l - 1) l) ≡ d =
       digits-are (inv .long) ∙ ap (λ (a : Bool). a && d) (inv .spelled) in
-      let fine : proper (frameOf l) ≡ true = proper-header l ∙ ap properHeader (sym (inv .spelled-values)) ∙ inv .proper in
-      let taken : bit kinds (frameOf l .kind) ≡ true = ap (λ (xs : List ℕ). bit kinds (getD xs 0 0)) (sym (inv .spelled-values)) ∙ b in
+      let fine : proper (frameOf l) ≡ true = proper-header l ∙ inv .proper in
       let same : (isLine l && bit kinds (frameOf l .kind)) ≡ bodyGood l =
-      ap₂ _&&_ (ap₂ (λ (x y : Bool). (x && c) && (s && y)) digits fine) taken ∙ turned d c s in
+      ap₂ _&&_ (ap₂ (λ (x y : Bool). (x && c) && (s && y)) digits fine) b ∙ turned d c s in
       sym (ap (λ (t : Bool). cond t (record { found = true; frame = frameOf l }) nothing) same)
 
 -- ---- the line after its header was read
@@ -275,13 +244,47 @@ module _ (l h : List ℕ) (kinds : ℕ) (long : 37 ≤ length l) (good : Bool) (
     pub head-not-taken : bit kinds (getD h 0 0) ≡ false → nothing ≡ readingOf l kinds
     head-not-taken e = not-taken l kinds (ap (λ (xs : List ℕ). bit kinds (getD xs 0 0)) (sym values-are) ∙ e)
 
-    pub headed : properHeader h ≡ true → Headed l h
+    pub head-found : properHeader h ≡ true → bit kinds (getD h 0 0) ≡ true → {hd : Heading} → hd ≡ headingOf h → HeadIn l kinds hd
     unfolding total
-    headed e = record { long = long; spelled = sym (r .all) ∙ g; spelled-values = values-are; proper = e }
+    head-found e b f =
+        record {
+          found = λ p.
+              record {
+                headed = record { long = long; spelled = sym (r .all) ∙ g; proper = ap properHeader (sym values-are) ∙ e };
+                heading = f ∙ ap headingOf values-are;
+                taken = ap (λ (xs : List ℕ). bit kinds (getD xs 0 0)) (sym values-are) ∙ b;
+              };
+          missing = λ p. absurd (true≢false (sym (ap (λ (x : Heading). x .found) f) ∙ p));
+        }
 
-    pub head-in : properHeader h ≡ true → (b : Bool) → b ≡ bit kinds (getD h 0 0) → HeadIn l kinds b h
-    head-in e b f = record { headed = λ p. headed e; taken = λ p. sym f ∙ p; none = λ p. head-not-taken (sym f ∙ p) }
+    pub head-fitting : Fitting h
+    unfolding total
+    head-fitting = subst Fitting (sym values-are) (header-fits l long (sym (r .all) ∙ g))
 
--- where there is no frame, no header is good
-pub no-head : {l h : List ℕ} {kinds : ℕ} → nothing ≡ readingOf l kinds → HeadIn l kinds false h
-no-head e = record { headed = λ p. absurd (true≢false (sym p)); taken = λ p. absurd (true≢false (sym p)); none = λ p. e }
+-- where there is no frame, none is found
+pub no-head : {l : List ℕ} {kinds : ℕ} {hd : Heading} → hd ≡ noHeading → nothing ≡ readingOf l kinds → HeadIn l kinds hd
+no-head e f =
+    record {
+      found = λ p. absurd (true≢false (sym p ∙ ap (λ (x : Heading). x .found) e));
+      missing = λ p. record { heading = e; none = f };
+    }
+
+-- ---- the line after its header was found
+
+pub found-counted : {l : List ℕ} {kinds : ℕ} {hd : Heading} → Found l kinds hd → Counted l (hd .n) (hd .m)
+found-counted f = record { first = ap (λ (x : Heading). x .n) (f .heading); second = ap (λ (x : Heading). x .m) (f .heading) }
+
+module _ (l : List ℕ) (kinds : ℕ) (hd : Heading) (f : Found l kinds hd) where
+  judged : (good : Bool) → good ≡ bodyGood l → cond good (record { found = true; frame = frameOf l }) nothing ≡ readingOf l kinds
+  unfolding bodyReading
+  judged good e = ap (λ (b : Bool). cond b (record { found = true; frame = frameOf l }) nothing) e ∙ whole-line l kinds (f .headed) (f .taken)
+
+  pub rest-bad : false ≡ bodyGood l → nothing ≡ readingOf l kinds
+  rest-bad e = judged false e
+
+  pub rest-good : {ws : List ℕ} → true ≡ bodyGood l → ws ≡ frameOf l .words → readingWith hd ws ≡ readingOf l kinds
+  unfolding frameOf framed
+  rest-good e w = ap₂ readingWith (f .heading) w ∙ judged true e
+
+pub none-read : (l : List ℕ) (kinds : ℕ) {hd : Heading} → hd ≡ noHeading → nothing ≡ readingOf l kinds → readingWith hd (replicate 64 0) ≡ readingOf l kinds
+none-read l kinds e f = ap (λ (x : Heading). readingWith x (replicate 64 0)) e ∙ f

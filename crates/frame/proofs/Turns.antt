@@ -10,7 +10,7 @@ use lib.Dec.{leb, ltb, eqb}
 use lib.Pow.{pow-mono}
 use lib.ListN.{length, getD, take, drop, set, length-set, length-append, length-drop, drop-of-length-le}
 use lib.Seq.{drop-cons, take-suc, take-suc-set, drop-set-add, drop-set-lt, take-set-le, set-split, take-all}
-use borrow.Author.Tests.{eqb-true, ltb-true, ne-eqb, eq-eqb}
+use borrow.Author.Tests.{eqb-true, ltb-true, lt-ltb, ne-eqb, eq-eqb}
 use Rattle.frame.specs.declared.Spelled.{Spelled}
 use Rattle.frame.specs.Hex.{digit, isDigit, valueOf, allDigits, byteOf, numberFrom, number, digitsOf, spell, numbers, total}
 use Rattle.frame.specs.HexLaws.{Byte, byte-of, value-lt}
@@ -69,40 +69,20 @@ pub unused-end : (r : List Bool) (l : List ℕ) (i : ℕ) → length r ≤ i →
 unfolding zeroUnless
 unused-end r l i h = rw (drop-of-length-le r {i = i} h)
 
--- ---- the byte of two characters
-
-pub digit-in-le : (c : ℕ) → digitIn c ≤ 256
-unfolding digitIn
-digit-in-le c = go (isDigit c) refl
-  where
-    go : (b : Bool) → isDigit c ≡ b → cond b (valueOf c) 256 ≤ 256
-    go true e = omega (arith, value-lt c e)
-    go false e = le-refl 256
+-- ---- the digit of a character
 
 digit-in : (c : ℕ) → isDigit c ≡ true → digitIn c ≡ valueOf c
 unfolding digitIn
 digit-in c e = rw e
 
-no-digit-in : (c : ℕ) → isDigit c ≡ false → digitIn c ≡ 256
+-- below 16 exactly if it is one
+fine-is : (c : ℕ) → ltb (digitIn c) 16 ≡ isDigit c
 unfolding digitIn
-no-digit-in c e = rw e
-
--- below 256 exactly if both are digits
-pub both-digits : (a b : ℕ) → 16 * digitIn a + digitIn b < 256 → (isDigit a ≡ true) × (isDigit b ≡ true)
-both-digits a b h = go (isDigit a) (isDigit b) refl refl
+fine-is c = go (isDigit c) refl
   where
-    go : (p q : Bool) → isDigit a ≡ p → isDigit b ≡ q → (isDigit a ≡ true) × (isDigit b ≡ true)
-    go true true e f = (e, f)
-    go true false e f = absurd (omega (arith, no-digit-in b f))
-    go false q e f = absurd (omega (arith, no-digit-in a e))
-
-pub not-both : (a b : ℕ) → 256 ≤ 16 * digitIn a + digitIn b → (isDigit a && isDigit b) ≡ false
-not-both a b h = go (isDigit a) (isDigit b) refl refl
-  where
-    go : (p q : Bool) → isDigit a ≡ p → isDigit b ≡ q → (p && q) ≡ false
-    go true true e f = absurd (omega (arith, digit-in a e, digit-in b f, value-lt a e, value-lt b f))
-    go true false e f = refl
-    go false q e f = refl
+    go : (b : Bool) → isDigit c ≡ b → ltb (cond b (valueOf c) 255) 16 ≡ b
+    go true e = lt-ltb (valueOf c) 16 (value-lt c e)
+    go false e = refl
 
 -- ---- a header's values
 
@@ -128,6 +108,10 @@ module _ (h : List ℕ) where
 
 -- ---- one number that is read
 
+-- two digits that are fine
+pub fine-below : (p q : ℕ) → (ltb p 16 && ltb q 16) ≡ true → (p < 16) × (q < 16)
+fine-below p q e = (ltb-true p 16 (and-left (ltb p 16) (ltb q 16) e), ltb-true q 16 (and-right (ltb p 16) (ltb q 16) e))
+
 -- what is left of digits at a byte: its two digits, and what is left after it
 two-next : (l : List ℕ) (i : ℕ) → 2 * i + 1 < length l → drop (2 * i) l ≡ getD l (2 * i) 0 ∷ getD l (2 * i + 1) 0 ∷ drop (2 * (i + 1)) l
 two-next l i h =
@@ -150,7 +134,7 @@ pub room : (i x : ℕ) → x < 256 ^ i → i < 8 → 256 * x + 255 < 2 ^ 64
 room i x h l = omega (arith, pow-le-pow-right {n = 256} (zero-lt-suc 255) {i = i} {j = 7} (omega arith))
 
 module _ (l : List ℕ) (width x i : ℕ) (inv : Spelling l width x i) where
-  module _ (size : length l ≡ 2 * width) (more : i < width) (y : ℕ) (e : y ≡ 16 * digitIn (getD l (2 * i) 0) + digitIn (getD l (2 * i + 1) 0)) where
+  module _ (size : length l ≡ 2 * width) (more : i < width) (p q : ℕ) (ep : p ≡ digitIn (getD l (2 * i) 0)) (eq : q ≡ digitIn (getD l (2 * i + 1) 0)) where
     a : ℕ
     a = getD l (2 * i) 0
 
@@ -161,28 +145,32 @@ module _ (l : List ℕ) (width x i : ℕ) (inv : Spelling l width x i) where
     unfolding a b
     next = two-next l i (omega arith)
 
+    both-fine : (ltb p 16 && ltb q 16) ≡ (isDigit a && isDigit b)
+    unfolding a b
+    both-fine = ap₂ (λ (x y : ℕ). ltb x 16 && ltb y 16) ep eq ∙ ap₂ _&&_ (fine-is a) (fine-is b)
+
     -- not both are digits
-    pub spelling-stop : 256 ≤ y → _≡_ {A = Spelled} (record { good = false; value = 0 }) (numberIn l)
-    unfolding numberIn allDigits a b
+    pub spelling-stop : (ltb p 16 && ltb q 16) ≡ false → _≡_ {A = Spelled} (record { good = false; value = 0 }) (numberIn l)
+    unfolding numberIn allDigits
     spelling-stop h =
-        let no : (isDigit a && isDigit b) ≡ false = not-both a b (omega arith) in
         let bad : allDigits l ≡ false =
         sym (inv .digits) ∙ ap allDigits next ∙ sym (and-assoc (isDigit a) (isDigit b) (allDigits (drop (2 * (i + 1)) l)))
-        ∙ ap (λ (t : Bool). t && allDigits (drop (2 * (i + 1)) l)) no in
+        ∙ ap (λ (t : Bool). t && allDigits (drop (2 * (i + 1)) l)) (sym both-fine ∙ h) in
         sym (ap (λ (t : Bool). record { good = t; value = cond t (number l) 0 }) bad)
 
     -- both are, and make a byte
-    pub spelling-turn : y < 256 → Spelling l width (256 * x + y) (i + 1)
+    pub spelling-turn : (ltb p 16 && ltb q 16) ≡ true → Spelling l width (256 * x + 16 * p + q) (i + 1)
     unfolding allDigits numberFrom byteOf a b
     spelling-turn h =
-        let both = both-digits a b (omega arith) in
-        let byte : y ≡ byteOf a b = omega (arith, digit-in a (both .0), digit-in b (both .1)) in
+        let da = and-left (isDigit a) (isDigit b) (sym both-fine ∙ h) in
+        let db = and-right (isDigit a) (isDigit b) (sym both-fine ∙ h) in
+        let byte : 256 * x + 16 * p + q ≡ 256 * x + byteOf a b = omega (arith, digit-in a da, digit-in b db) in
         record {
           inside = omega arith;
-          below = rw (add-one i, pow-suc 256 i) (omega (arith, inv .below));
-          digits = sym (ap allDigits next ∙ ap₂ (λ (s t : Bool). s && (t && allDigits (drop (2 * (i + 1)) l))) (both .0) (both .1)) ∙ inv .digits;
+          below = rw (add-one i, pow-suc 256 i) (omega (arith, inv .below, digit-in a da, digit-in b db, value-lt a da, value-lt b db));
+          digits = sym (ap allDigits next ∙ ap₂ (λ (s t : Bool). s && (t && allDigits (drop (2 * (i + 1)) l))) da db) ∙ inv .digits;
           value =
-              ap (λ (n : ℕ). numberFrom (256 * x + n) (drop (2 * (i + 1)) l)) byte
+              ap (λ (n : ℕ). numberFrom n (drop (2 * (i + 1)) l)) byte
               ∙ sym (ap (numberFrom x) next) ∙ inv .value;
         }
 

@@ -12,20 +12,20 @@ use Rattle.roster.specs.Mask.{bit}
 use Rattle.frame.specs.Hex.{digit, isDigit, valueOf, allDigits, number, numbers, total}
 use Rattle.frame.specs.Layout.{limit, widths, withValues, count, lineLength}
 use Rattle.frame.specs.Kinds.{uses, isKind, zeroUnless}
-use Rattle.frame.specs.Format.{frameOf, lineFeed, nothing, readingOf, readingWith}
+use Rattle.frame.specs.Format.{frameOf, lineFeed, nothing, readingOf}
 
--- the digit that a character is; 256 for what is none
+-- the digit that a character is; 255 for what is none
 unfoldable pub digitIn : ℕ → ℕ
-digitIn c = cond (isDigit c) (valueOf c) 256
+digitIn c = cond (isDigit c) (valueOf c) 255
 
 -- the list of what a rule gives at each number below n
-abbrev pub tabled : ℕ → (ℕ → ℕ) → List ℕ
+abbrev pub tabled : {A : Type 0} → ℕ → (ℕ → A) → List A
 tabled zero rule = []
 tabled (suc n) rule = rule 0 ∷ tabled n (λ k. rule (suc k))
 
--- the table of the digits that characters are, and that of the characters of digits
-unfoldable pub values : List ℕ
-values = tabled 256 digitIn
+-- the table of the digits that characters are, in sixteen rows of sixteen, and that of the characters of digits
+unfoldable pub values : List (List ℕ)
+values = tabled 16 (λ r. tabled 16 (λ k. digitIn (16 * r + k)))
 
 unfoldable pub characters : List ℕ
 characters = tabled 16 digit
@@ -68,18 +68,30 @@ headingOf h = headingWith true h
 abbrev pub noHeading : Heading
 noHeading = headingWith false []
 
--- a line that is long enough, whose header's digits spell these values, and they are proper
-pub record Headed (l h : List ℕ) : Type 0 where
+-- a line that is long enough, whose header's digits spell proper values
+pub record Headed (l : List ℕ) : Type 0 where
   pub long : lineLength 0 ≤ length l
   pub spelled : allDigits (take (2 * total widths) l) ≡ true
-  pub spelled-values : h ≡ numbers widths l
-  pub proper : properHeader h ≡ true
+  pub proper : properHeader (numbers widths l) ≡ true
 
--- what reading a line's header finds: values of a kind that is taken, or that there is no frame
-pub record HeadIn (l : List ℕ) (kinds : ℕ) (good : Bool) (h : List ℕ) : Type 0 where
-  pub headed : good ≡ true → Headed l h
-  pub taken : good ≡ true → bit kinds (getD h 0 0) ≡ true
-  pub none : good ≡ false → nothing ≡ readingOf l kinds
+-- and its counts
+pub record Counted (l : List ℕ) (n m : ℕ) : Type 0 where
+  pub first : n ≡ getD (numbers widths l) 6 0
+  pub second : m ≡ getD (numbers widths l) 7 0
+
+-- what reading a line's header finds: the heading that it spells, of a kind that is taken, or that there is no frame
+pub record Found (l : List ℕ) (kinds : ℕ) (h : Heading) : Type 0 where
+  pub headed : Headed l
+  pub heading : h ≡ headingOf (numbers widths l)
+  pub taken : bit kinds (getD (numbers widths l) 0 0) ≡ true
+
+pub record Missing (l : List ℕ) (kinds : ℕ) (h : Heading) : Type 0 where
+  pub heading : h ≡ noHeading
+  pub none : nothing ≡ readingOf l kinds
+
+pub record HeadIn (l : List ℕ) (kinds : ℕ) (h : Heading) : Type 0 where
+  pub found : h .found ≡ true → Found l kinds h
+  pub missing : h .found ≡ false → Missing l kinds h
 
 -- what is left to test of such a line: the length, the line feed, and the digits of the commands
 unfoldable pub bodyGood : List ℕ → Bool
@@ -90,7 +102,7 @@ bodyGood l =
 unfoldable pub bodyReading : List ℕ → Reading
 bodyReading l = cond (bodyGood l) (record { found = true; frame = frameOf l }) nothing
 
--- what reading the rest finds: the heading and the words, or that there is no frame
-pub record BodyIn (l : List ℕ) (h : Heading) (ws : List ℕ) : Type 0 where
-  pub some : h .found ≡ true → readingWith h ws ≡ bodyReading l
-  pub none : h .found ≡ false → nothing ≡ bodyReading l
+-- what reading the rest finds: whether it is good, and the words if so
+pub record BodyIn (l : List ℕ) (good : Bool) (ws : List ℕ) : Type 0 where
+  pub is : good ≡ bodyGood l
+  pub words : good ≡ true → ws ≡ frameOf l .words

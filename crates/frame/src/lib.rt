@@ -8,12 +8,8 @@ ghost use Rattle.frame.specs.Layout as layout;
 ghost use Rattle.frame.specs.Kinds as kinds;
 ghost use Rattle.frame.specs.Format as format;
 ghost use Rattle.frame.specs.Leaves as leaves;
-
-mod tables;
-
 use roster::Ballot;
 use roster::View;
-use tables::VALUES;
 
 // The longest line, with its line feed.
 pub const LONGEST: usize = 1061;
@@ -56,12 +52,6 @@ struct Spelled {
     value: u64,
 }
 
-// The values of a header, and whether they are good.
-struct Head {
-    good: bool,
-    values: [u64; 8],
-}
-
 // How many characters the header has, the shortest line, and a command; the most commands of a list.
 const HEADER: usize = 36;
 
@@ -97,30 +87,93 @@ const USES: [[bool; 8]; 11] = [
     [YES, YES, YES, NO, NO, YES, NO, NO], // LEADER
 ];
 
-// The byte of two digits; 256 or more where one is no digit.
-fn byte_of(values: &[u16], a: u8, b: u8) -> u16
+// The digits that sixteen characters are, 255 for what is none: the sixteen that hold 0 to 9, the sixteen that hold a to f, and any others.
+const TENS: [u8; 16] = [0, 1, 2, 3, 4, 5, 6, 7, 8, 9, 255, 255, 255, 255, 255, 255];
+
+const LETTERS: [u8; 16] = [
+    255,
+    10,
+    11,
+    12,
+    13,
+    14,
+    15,
+    255,
+    255,
+    255,
+    255,
+    255,
+    255,
+    255,
+    255,
+    255,
+];
+
+const OTHERS: [u8; 16] = [
+    255,
+    255,
+    255,
+    255,
+    255,
+    255,
+    255,
+    255,
+    255,
+    255,
+    255,
+    255,
+    255,
+    255,
+    255,
+    255,
+];
+
+// The digit that each character is.
+const VALUES: [[u8; 16]; 16] = [
+    OTHERS,
+    OTHERS,
+    OTHERS,
+    TENS,
+    OTHERS,
+    OTHERS,
+    LETTERS,
+    OTHERS,
+    OTHERS,
+    OTHERS,
+    OTHERS,
+    OTHERS,
+    OTHERS,
+    OTHERS,
+    OTHERS,
+    OTHERS,
+];
+
+// The digit that a character is.
+fn digit_of(values: &[[u8; 16]; 16], c: u8) -> u8
     requires { ⌜ now values ≡ leaves.values ⌝ }
-    ensures { λ r. ⌜ r ≡ 16 * leaves.digitIn a + leaves.digitIn b ⌝ }
+    ensures { λ r. ⌜ r ≡ leaves.digitIn c ⌝ }
 {
-    16 * values[a as usize] + values[b as usize]
+    values[(c / 16) as usize][(c % 16) as usize]
 }
 
 // The number of `width` bytes that digits spell.
-fn number(values: &[u16], digits: &[u8], width: usize) -> Spelled
+fn number(values: &[[u8; 16]; 16], digits: &[u8], width: usize) -> Spelled
     requires { ⌜ (now values ≡ leaves.values) × (width ≤ 8) × (length (now digits) ≡ 2 * width) ⌝ }
     ensures { λ r. ⌜ r ≡ leaves.numberIn (now (digits .entry)) ⌝ }
 {
     let mut x: u64 = 0;
     let mut i: usize = 0;
     while i < width {
-        let byte = byte_of(values, digits[2 * i], digits[2 * i + 1]);
-        if 256 <= byte {
+        let a = digit_of(values, digits[2 * i]);
+        let b = digit_of(values, digits[2 * i + 1]);
+        let fine = (a < 16) & (b < 16);
+        if !fine {
             return Spelled {
                 good: false,
                 value: 0,
             };
         }
-        x = 256 * x + byte as u64;
+        x = 256 * x + 16 * (a as u64) + b as u64;
         i += 1;
     }
     Spelled {
@@ -130,7 +183,7 @@ fn number(values: &[u16], digits: &[u8], width: usize) -> Spelled
 }
 
 // The header's values; whether all characters are digits.
-fn read_header(values: &[u16], digits: &[u8], head: &mut [u64]) -> bool
+fn read_header(values: &[[u8; 16]; 16], digits: &[u8], head: &mut [u64]) -> bool
     requires { ⌜ (now values ≡ leaves.values) × (length (now digits) ≡ 2 * hex.total layout.widths) × (length (now head) ≡ length layout.widths) ⌝ }
     ensures { λ r. ⌜ leaves.NumbersIn layout.widths (now (digits .entry)) r (now (head .exit)) ⌝ }
 {
@@ -151,7 +204,7 @@ fn read_header(values: &[u16], digits: &[u8], head: &mut [u64]) -> bool
 }
 
 // The commands; whether all characters are digits.
-fn read_words(values: &[u16], digits: &[u8], words: &mut [u64]) -> bool
+fn read_words(values: &[[u8; 16]; 16], digits: &[u8], words: &mut [u64]) -> bool
     requires { ⌜ (now values ≡ leaves.values) × (length (now digits) ≡ 16 * length (now words)) ⌝ }
     ensures { λ r. ⌜ leaves.NumbersIn (format.commands (length (now (words .entry)))) (now (digits .entry)) r (now (words .exit)) ⌝ }
 {
@@ -305,56 +358,44 @@ fn heading_of(head: [u64; 8]) -> Heading
     }
 }
 
-// The values of a line's header; good if they are proper and the kind is one of the kinds.
-fn read_head(values: &[u16], line: &[u8], kinds: u16) -> Head
+// The heading that a line's header spells, if it is proper and the kind is one of the kinds.
+fn read_head(values: &[[u8; 16]; 16], line: &[u8], kinds: u16) -> Heading
     requires { ⌜ now values ≡ leaves.values ⌝ }
-    ensures { λ r. ⌜ leaves.HeadIn (now (line .entry)) kinds (r .good) (r .values) ⌝ }
+    ensures { λ h. ⌜ leaves.HeadIn (now (line .entry)) kinds h ⌝ }
 {
-    let mut head = [0u64; 8];
     if line.len() < SHORTEST {
-        return Head {
-            good: false,
-            values: head,
-        };
+        return no_heading();
     }
+    let mut head = [0u64; 8];
     let spelled = read_header(values, &line[..HEADER], &mut head);
     if !spelled {
-        return Head {
-            good: false,
-            values: head,
-        };
+        return no_heading();
     }
     let fine = proper(&head);
     if !fine {
-        return Head {
-            good: false,
-            values: head,
-        };
-    }
-    Head {
-        good: roster::contains(kinds, head[0] as u8),
-        values: head,
-    }
-}
-
-// The heading of a line whose header was read, and its commands into words that are 0.
-fn read_body(values: &[u16], line: &[u8], head: [u64; 8], words: &mut [u64]) -> Heading
-    requires { ⌜ (now values ≡ leaves.values) × leaves.Headed (now line) head × (now words ≡ replicate 64 0) ⌝ }
-    ensures { λ h. ⌜ leaves.BodyIn (now (line .entry)) h (now (words .exit)) ⌝ }
-{
-    let count = head[6] as usize + head[7] as usize;
-    let end = HEADER + COMMAND * count;
-    if line.len() != end + 1 {
         return no_heading();
     }
-    if line[end] != FEED {
-        return no_heading();
-    }
-    let good = read_words(values, &line[HEADER..end], &mut words[..count]);
-    if !good {
+    let taken = roster::contains(kinds, head[0] as u8);
+    if !taken {
         return no_heading();
     }
     heading_of(head)
+}
+
+// Whether the rest of a line whose header was read is right, and the commands into words that are 0.
+fn read_body(values: &[[u8; 16]; 16], line: &[u8], n: u8, m: u8, words: &mut [u64]) -> bool
+    requires { ⌜ (now values ≡ leaves.values) × leaves.Headed (now line) × leaves.Counted (now line) n m × (now words ≡ replicate 64 0) ⌝ }
+    ensures { λ r. ⌜ leaves.BodyIn (now (line .entry)) r (now (words .exit)) ⌝ }
+{
+    let count = n as usize + m as usize;
+    let end = HEADER + COMMAND * count;
+    if line.len() != end + 1 {
+        return false;
+    }
+    if line[end] != FEED {
+        return false;
+    }
+    read_words(values, &line[HEADER..end], &mut words[..count])
 }
 
 // Reads a line of one of the kinds (kind k is bit k) into a heading and lent words: the n commands, then the m, then zeros.
@@ -362,14 +403,13 @@ pub fn read_into(line: &[u8], kinds: u16, words: &mut [u64; 64]) -> Heading
     ensures { λ h. ⌜ format.readingWith h (now (words .exit)) ≡ format.readingOf (now (line .entry)) kinds ⌝ }
 {
     *words = [0u64; 64];
-    let values: &[u16] = &VALUES;
-    let read = read_head(values, line, kinds);
-    if !read.good {
-        return no_heading();
+    let values = &VALUES;
+    let h = read_head(values, line, kinds);
+    if !h.found {
+        return h;
     }
-    let head = read.values;
-    let h = read_body(values, line, head, words);
-    if h.found {
+    let good = read_body(values, line, h.n, h.m, words);
+    if good {
         return h;
     }
     *words = [0u64; 64];
@@ -380,13 +420,11 @@ pub fn read_into(line: &[u8], kinds: u16, words: &mut [u64; 64]) -> Heading
 pub fn read_bare(line: &[u8], kinds: u16) -> Heading
     ensures { λ h. ⌜ format.readingWith h (replicate 64 0) ≡ format.bareReading (now (line .entry)) kinds ⌝ }
 {
-    let values: &[u16] = &VALUES;
-    let read = read_head(values, line, kinds);
-    if !read.good {
-        return no_heading();
+    let h = read_head(&VALUES, line, kinds);
+    if !h.found {
+        return h;
     }
-    let head = read.values;
-    let bare = (head[6] == 0) & (head[7] == 0);
+    let bare = (h.n == 0) & (h.m == 0);
     if !bare {
         return no_heading();
     }
@@ -396,7 +434,7 @@ pub fn read_bare(line: &[u8], kinds: u16) -> Heading
     if line[HEADER] != FEED {
         return no_heading();
     }
-    heading_of(head)
+    h
 }
 
 // The frame of a line, if these characters are a line, of one of the kinds (kind k is bit k).

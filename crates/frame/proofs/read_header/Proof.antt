@@ -17,7 +17,7 @@ abbrev μ-loop : tie.MeasureT-loop
 μ-loop values digits head₀ at₀ k₀ head at k = 8 - k
 
 loop-holds : tie.Need-loop-holds Inv-loop μ-loop
-loop-holds c = gathering-start widths _ _ (c .before .before .before .pre .2) (c .before .before .before .pre .1)
+loop-holds c = gathering-start widths _ _ (c .before .before .pre .2) (c .before .before .pre .1)
 
 mul-width : tie.Need-mul-width Inv-loop μ-loop
 mul-width c = search needs
@@ -29,7 +29,7 @@ mul-end : tie.Need-mul-end Inv-loop μ-loop
 mul-end c = omega (arith, width-most (c .before .loop .k) (omega arith))
 
 add-end : tie.Need-add-end Inv-loop μ-loop
-add-end c = omega (arith, width-most (c .before .loop .k) (omega arith), end-within widths (c .before .before .before .before .before .args .digits .now) (c .before .loop .at) (c .before .loop .k) (omega arith) (c .before .loop .inv .left))
+add-end c = omega (arith, width-most (c .before .loop .k) (omega arith), end-within widths (c .before .before .before .before .args .digits .now) (c .before .loop .at) (c .before .loop .k) (omega arith) (c .before .loop .inv .left))
 
 sub-number : tie.Need-sub-number Inv-loop μ-loop
 sub-number c = omega arith
@@ -38,10 +38,10 @@ part-number-start : tie.Need-part-number-start Inv-loop μ-loop
 part-number-start c = omega arith
 
 part-number-end : tie.Need-part-number-end Inv-loop μ-loop
-part-number-end c = omega (arith, end-within widths (c .before .before .before .before .before .args .digits .now) (c .before .loop .at) (c .before .loop .k) (omega arith) (c .before .loop .inv .left))
+part-number-end c = omega (arith, end-within widths (c .before .before .before .before .args .digits .now) (c .before .loop .at) (c .before .loop .k) (omega arith) (c .before .loop .inv .left))
 
 number-requires : tie.Need-number-requires Inv-loop μ-loop
-number-requires c κs = (c .before .before .before .before .before .before .pre .0, width-most (c .before .before .loop .k) (omega arith), part-size widths (c .before .before .before .before .before .before .args .digits .now) (c .before .before .loop .at) (c .before .before .loop .k) (omega arith) (c .before .before .loop .inv .left) _ refl)
+number-requires c κs = (c .before .before .before .before .before .pre .0, width-most (c .before .before .loop .k) (omega arith), part-size widths (c .before .before .before .before .before .args .digits .now) (c .before .before .loop .at) (c .before .before .loop .k) (omega arith) (c .before .before .loop .inv .left) _ refl)
 
 same-length : tie.Need-same-length Inv-loop μ-loop
 same-length c = omega arith
