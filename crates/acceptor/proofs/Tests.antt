@@ -8,7 +8,8 @@ use lib.ListN.{length, take, drop}
 use lib.Seq.{length-take-le}
 use Rattle.history.specs.History.{extends}
 use Rattle.history.specs.Words.{padded, extendsWithin}
-use Rattle.history.specs.WordsLaws.{extends-within, padded-whole, take-padded}
+use Rattle.words.specs.WordsLaws.{padded-whole, take-padded}
+use Rattle.history.specs.WordsLaws.{extends-within}
 use Rattle.merge.specs.Merge.{appendedIn}
 use Rattle.merge.specs.AppendingLaws.{appended-in-work, take-appended, append-bound}
 use Rattle.roster.specs.declared.Roster.{Roster}

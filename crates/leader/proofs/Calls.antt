@@ -16,7 +16,8 @@ use Rattle.roster.specs.Roster.{quorum}
 use Rattle.roster.specs.Mask.{reaches, withSite}
 use Rattle.history.specs.declared.History.{History}
 use Rattle.history.specs.Words.{limit, padded, commands, stored}
-use Rattle.history.specs.WordsLaws.{length-padded, padded-whole, commands-stored, stored-first}
+use Rattle.words.specs.WordsLaws.{length-padded, padded-whole}
+use Rattle.history.specs.WordsLaws.{commands-stored, stored-first}
 use Rattle.merge.specs.Merge.{appended, appendedIn}
 use Rattle.merge.specs.AppendingLaws.{take-appended}
 use Rattle.table.specs.Table.{tableOf, storedIn}

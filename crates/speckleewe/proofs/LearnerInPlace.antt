@@ -251,10 +251,10 @@ module _ {M : Type 1} (𝓤 : URA M) (H : Heap 𝓤) (A : Atoms 𝓤) (W : Given
         let of-entries : AreAll (fields E.the-type) (E.the-type .to (h .entries)) _ = LL.owed E.the-type E′.the-laws (h .entries) _ (of .0) in
         let of-learned : AreAll (fields S.the-type) (S.the-type .to (h .learned)) _ = LL.owed S.the-type S′.the-laws (h .learned) _ (of .1 .0) in
         move ! (1 ∷ []) $ drop ! $
-        use1 W (cells 𝓤 H A W τR 0 b o (vcons (LL.val E.the-type E′.the-laws (h .entries)) (vcons (LL.val S.the-type S′.the-laws (h .learned)) vnil)) ⊛ raw (Rest 𝓤 H A W τR b o)) (apart 𝓤 H A W τR b o _) $ split ! $ split ! $
-        use1 W (cells 𝓤 H A W τE 0 b (o + 0) (vcons (valOf L₁ (h .entries .counts)) (vcons (valOf L₂ (h .entries .words)) vnil)) ⊛ raw (Rest 𝓤 H A W τE b (o + 0))) (apart 𝓤 H A W τE b (o + 0) _) $ split ! $ split ! $ move ! (1 ∷ []) $ split ! $
+        use1 W (cells 𝓤 H A W τR 0 b o (vcons (LL.val E.the-type E′.the-laws (h .entries)) (vcons (LL.val S.the-type S′.the-laws (h .learned)) vnil)) ⊛ raw (Rest 𝓤 H A W [] τR b o)) (apart 𝓤 H A W [] τR b o _) $ split ! $ split ! $
+        use1 W (cells 𝓤 H A W τE 0 b (o + 0) (vcons (valOf L₁ (h .entries .counts)) (vcons (valOf L₂ (h .entries .words)) vnil)) ⊛ raw (Rest 𝓤 H A W [] τE b (o + 0))) (apart 𝓤 H A W [] τE b (o + 0) _) $ split ! $ split ! $ move ! (1 ∷ []) $ split ! $
         move ! (4 ∷ []) $ split ! $
-        use1 W (cells 𝓤 H A W τS 0 b (o + 4112) (vcons (valOf L₃ (h .learned .count)) (vcons (valOf L₄ (h .learned .words)) vnil)) ⊛ raw (Rest 𝓤 H A W τS b (o + 4112))) (apart 𝓤 H A W τS b (o + 4112) _) $ split ! $ split ! $ move ! (1 ∷ []) $ split ! $
+        use1 W (cells 𝓤 H A W τS 0 b (o + 4112) (vcons (valOf L₃ (h .learned .count)) (vcons (valOf L₄ (h .learned .words)) vnil)) ⊛ raw (Rest 𝓤 H A W [] τS b (o + 4112))) (apart 𝓤 H A W [] τS b (o + 4112) _) $ split ! $ split ! $ move ! (1 ∷ []) $ split ! $
         move ! (7 ∷ 5 ∷ 2 ∷ 0 ∷ 8 ∷ 3 ∷ 9 ∷ []) $
         -- [the four cells; the three rests; true; true; true; the open borrow; obs; auth; the token; the arguments; _7; …]
         lft-new ! tt (λ ν. move ! (1 ∷ []) $
@@ -288,11 +288,11 @@ module _ {M : Type 1} (𝓤 : URA M) (H : Heap 𝓤) (A : Atoms 𝓤) (W : Given
         let now-is : Is (row R) t (LL.vals R R′ t) = LL.owes R R′ t (LL.owes E.the-type E′.the-laws (t .entries) (f₁, (f₂, tt)), (LL.owes S.the-type S′.the-laws (t .learned) (f₃, (f₄, tt)), tt)) in
         -- [the four cells; the token; the rests; true; true; true; the open borrow; …]
         move ! (1 ∷ 8 ∷ []) $ join ! $ move ! (1 ∷ 0 ∷ []) $ join ! $ move ! (0 ∷ 4 ∷ []) $
-        use2 W (‵ (fat fullShare (tyStruct [] τE) b (o + 0) (LL.val E.the-type E′.the-laws (t .entries)))) (together 𝓤 H A W τE b (o + 0) (vcons (valOf L₁ (t .entries .counts)) (vcons (valOf L₂ (t .entries .words)) vnil))) $
+        use2 W (‵ (fat fullShare (tyStruct [] τE) b (o + 0) (LL.val E.the-type E′.the-laws (t .entries)))) (together 𝓤 H A W [] τE b (o + 0) (vcons (valOf L₁ (t .entries .counts)) (vcons (valOf L₂ (t .entries .words)) vnil))) $
         move ! (2 ∷ 6 ∷ []) $ join ! $ move ! (2 ∷ 0 ∷ []) $ join ! $ move ! (0 ∷ 3 ∷ []) $
-        use2 W (‵ (fat fullShare (tyStruct [] τS) b (o + 4112) (LL.val S.the-type S′.the-laws (t .learned)))) (together 𝓤 H A W τS b (o + 4112) (vcons (valOf L₃ (t .learned .count)) (vcons (valOf L₄ (t .learned .words)) vnil))) $
+        use2 W (‵ (fat fullShare (tyStruct [] τS) b (o + 4112) (LL.val S.the-type S′.the-laws (t .learned)))) (together 𝓤 H A W [] τS b (o + 4112) (vcons (valOf L₃ (t .learned .count)) (vcons (valOf L₄ (t .learned .words)) vnil))) $
         move ! (0 ∷ 4 ∷ []) $ join ! $ move ! (1 ∷ 0 ∷ []) $ join ! $ move ! (0 ∷ 2 ∷ []) $
-        use2 W (‵ (fat fullShare (tyStruct [] τR) b o (LL.val R R′ t))) (together 𝓤 H A W τR b o (vcons (LL.val E.the-type E′.the-laws (t .entries)) (vcons (LL.val S.the-type S′.the-laws (t .learned)) vnil))) $
+        use2 W (‵ (fat fullShare (tyStruct [] τR) b o (LL.val R R′ t))) (together 𝓤 H A W [] τR b o (vcons (LL.val E.the-type E′.the-laws (t .entries)) (vcons (LL.val S.the-type S′.the-laws (t .learned)) vnil))) $
         owned ! (row R) (Is (row R)) (LL.makes R T′.the-plain 𝓤 H A) t _ now-is $ move ! (1 ∷ 0 ∷ 3 ∷ 4 ∷ 5 ∷ []) $
         closes ! tt (row R) t (LL.vals R R′ t) b o $
         returns ! (look ! 18 refl) $ forget ! 4 refl $ forget ! 6 refl $ forget ! 8 refl $ forget ! 10 refl $ forget ! 12 refl $ forget ! 14 refl $

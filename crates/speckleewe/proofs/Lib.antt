@@ -4,3 +4,5 @@ mod Lent
 mod WithBuffer
 mod Parts
 mod LearnerInPlace
+mod LeaderInPlace
+mod AcceptorInPlace

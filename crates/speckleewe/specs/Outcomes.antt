@@ -9,21 +9,28 @@ use Rattle.refusal.specs.Refusal.{answerNumber}
 use Rattle.site.specs.declared.ViewRecord.{ViewRecord}
 use Rattle.site.specs.Site as views
 use Rattle.acceptor.specs.declared.Outcome as accepting
+use Rattle.acceptor.specs.declared.Marks.{Marks}
 use Rattle.acceptor.specs.Acceptor as acceptor
+use Rattle.acceptor.specs.Verdict.{stateOf}
 use Rattle.leader.specs.declared.Outcome as leading
 use Rattle.leader.specs.declared.State as leading-state
+use Rattle.leader.specs.declared.Marks as leading-marks
+use Rattle.leader.specs.Parts as leading-parts
 use Rattle.leader.specs.Leader as leader
 use Rattle.learner.specs.declared.State.{State}
 use Rattle.learner.specs.Learner as learner
 use Rattle.viewchange.specs.declared.Outcome as changing
 use Rattle.viewchange.specs.ViewChange as change
-use Rattle.speckleewe.specs.declared.LeaderOutcome.{LeaderOutcome}
 use Rattle.speckleewe.specs.declared.LearnerReply.{LearnerReply}
 use Rattle.speckleewe.specs.declared.Opening.{Opening}
 use Rattle.speckleewe.specs.declared.Reply.{Reply}
 use Rattle.speckleewe.specs.declared.Site.{Site}
-use Rattle.speckleewe.specs.declared.SiteOutcome.{SiteOutcome}
 use Rattle.speckleewe.specs.declared.ViewChangeOutcome.{ViewChangeOutcome}
+
+-- what a call leaves: the answer in numbers and the record after it
+pub record Left (R : Type 0) : Type 0 where
+  pub reply : Reply
+  pub after : R
 
 -- ---- the view change
 
@@ -44,34 +51,37 @@ suspects v r own view = changesView v r own (change.ownSuspicion own view)
 
 -- ---- a site's acceptor: the view-change record stays
 
-abbrev pub siteOutcome : ViewRecord → accepting.Outcome → SiteOutcome
-siteOutcome v o = record { answer = answerNumber (o .answer); sent = o .sent; site = record { views = v; acceptor = o .state } }
-
-abbrev pub siteLeft : Reply → Site → SiteOutcome
-siteLeft r s = record { answer = r .answer; sent = r .sent; site = s }
-
 abbrev pub freshSite : Site
 freshSite = record { views = views.fresh; acceptor = acceptor.fresh }
 
-abbrev pub accepts : Site → Roster → ℕ → List ℕ → List ℕ → SiteOutcome → List ℕ → Type 0
-accepts s r own line out o buffer =
-    (o ≡ siteOutcome (s .views) (acceptor.returned r own (s .views) (s .acceptor) line out))
+-- a site of its parts: the record, the marks, and the counts and words of what is held, proven and verified
+abbrev pub siteOf : ViewRecord → Marks → ℕ → List ℕ → ℕ → List ℕ → List ℕ → List ℕ → Site
+siteOf v k heldCount held provenCount proven counts words = record { views = v; acceptor = stateOf k heldCount held provenCount proven counts words }
+
+-- what the role's outcome leaves
+abbrev pub siteGiven : ViewRecord → accepting.Outcome → Left Site
+siteGiven v o = record { reply = record { answer = answerNumber (o .answer); sent = o .sent }; after = record { views = v; acceptor = o .state } }
+
+-- the site before, the roster, the own number, the line and the buffer before; the answer in numbers, the site and the buffer after
+abbrev pub accepts : Site → Roster → ℕ → List ℕ → List ℕ → Reply → Site → List ℕ → Type 0
+accepts s r own line out a t buffer =
+    (record { reply = a; after = t } ≡ siteGiven (s .views) (acceptor.returned r own (s .views) (s .acceptor) line out))
     × (buffer ≡ acceptor.output r own (s .views) (s .acceptor) line out)
 
 -- ---- a leader: its step, and the opening of a ballot
 
-abbrev pub leaderOutcome : leading.Outcome → LeaderOutcome
-leaderOutcome o = record { answer = answerNumber (o .answer); sent = o .sent; state = o .state }
+abbrev pub leaderState : leading-marks.Marks → ℕ → List ℕ → List ℕ → List ℕ → List ℕ → List ℕ → leading-state.State
+leaderState = leading-parts.stateOf
 
-abbrev pub leaderLeft : Reply → leading-state.State → LeaderOutcome
-leaderLeft r s = record { answer = r .answer; sent = r .sent; state = s }
+abbrev pub leaderGiven : leading.Outcome → Left leading-state.State
+leaderGiven o = record { reply = record { answer = answerNumber (o .answer); sent = o .sent }; after = o .state }
 
-abbrev pub leads : leading-state.State → Roster → ℕ → List ℕ → List ℕ → LeaderOutcome → List ℕ → Type 0
-leads s r own line out o buffer = (o ≡ leaderOutcome (leader.returned r own s line out)) × (buffer ≡ leader.output r own s line out)
+abbrev pub leads : leading-state.State → Roster → ℕ → List ℕ → List ℕ → Reply → leading-state.State → List ℕ → Type 0
+leads s r own line out a t buffer = (record { reply = a; after = t } ≡ leaderGiven (leader.returned r own s line out)) × (buffer ≡ leader.output r own s line out)
 
-abbrev pub opens : leading-state.State → Roster → ℕ → Opening → List ℕ → LeaderOutcome → List ℕ → Type 0
-opens s r own p out o buffer =
-    (o ≡ leaderOutcome (leader.openingReturned r own s (p .ballot) (p .fast) out))
+abbrev pub opens : leading-state.State → Roster → ℕ → Opening → List ℕ → Reply → leading-state.State → List ℕ → Type 0
+opens s r own p out a t buffer =
+    (record { reply = a; after = t } ≡ leaderGiven (leader.openingReturned r own s (p .ballot) (p .fast) out))
     × (buffer ≡ leader.openingOutput r own s (p .ballot) (p .fast) out)
 
 -- ---- a learner

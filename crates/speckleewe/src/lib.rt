@@ -1,11 +1,12 @@
-// Everything that a C or Rust host calls. The host lends a role's record, and each call changes it in place: it copies the record, takes the proved
-// step by value, and stores the record that the step gives. A slice is passed as a pointer to its first byte and its length.
+// Everything that a C or Rust host calls. The host lends a role's record, and each call changes it in place: the parts of the record that are lists are
+// lent on to the proved step, and the few numbers beside them are copied and stored. The small view-change record is copied whole. A slice is passed as
+// a pointer to its first byte and its length.
 ghost use mathlib.Core.Path.{_≡_};
 ghost use Rattle.frame.specs.Layout.{longest};
 ghost use Rattle.leader.specs.Leader as leading;
 ghost use Rattle.learner.specs.Learner as learning;
 ghost use Rattle.site.specs.Site as fresh;
-ghost use Rattle.speckleewe.specs.Outcomes.{accepts, changesView, freshSite, leaderLeft, leaderOutcome, leads, learnerState, learns, opens, siteLeft, suspects, viewChangeOutcome, viewsLeft};
+ghost use Rattle.speckleewe.specs.Outcomes.{accepts, changesView, freshSite, leaderState, leads, learnerState, learns, opens, siteOf, suspects, viewChangeOutcome, viewsLeft};
 use learner::State;
 use roster::Ballot;
 use roster::Roster;
@@ -40,11 +41,11 @@ struct ViewChangeOutcome {
     views: ViewRecord,
 }
 
-// What an acceptor's step gives: the answer's number, how many bytes of the buffer are to be sent, and the site after it.
+// What an acceptor's step in place gives: the answer's number, how many bytes of the buffer are to be sent, and the marks after it.
 struct SiteOutcome {
     answer: u8,
     sent: usize,
-    site: Site,
+    marks: acceptor::Marks,
 }
 
 // A ballot that a leader is to open, a classic one where `fast` is 0.
@@ -54,11 +55,11 @@ pub struct Opening {
     pub fast: u8,
 }
 
-// What a leader's call gives: the answer's number, how many bytes of the buffer are to be sent, and the state after it.
+// What a leader's call in place gives: the answer's number, how many bytes of the buffer are to be sent, and the marks after it.
 struct LeaderOutcome {
     answer: u8,
     sent: usize,
-    state: leader::State,
+    marks: leader::Marks,
 }
 
 // A fresh view-change record: view 0, no suspicion, no target.
@@ -186,26 +187,43 @@ pub extern "C" fn speckleewe_suspicion(
     }
 }
 
-// A step of the acceptor of site `own`, by value, in the view of its view-change record.
-fn acceptor_by_value<'a>(
-    site: Site,
+// A step of the acceptor of site `own` on the parts of its state, in the view of its view-change record.
+fn acceptor_in_parts<'p, 'a>(
+    views: ViewRecord,
+    marks: acceptor::Marks,
+    hcount: &'p mut u8,
+    held: &'p mut [u64; 32],
+    pcount: &'p mut u8,
+    proven: &'p mut [u64; 32],
+    counts: &'p mut [u8; 16],
+    words: &'p mut [u64; 512],
     roster: Roster,
     own: u8,
     line: &'a [u8],
     out: &'a mut [u8],
 ) -> SiteOutcome
-    ensures { λ o. ⌜ accepts site roster own (now (line .entry)) (now (out .entry)) o (now (out .exit)) ⌝ }
+    ensures { λ o. ⌜ accepts (siteOf views marks (now (hcount .entry)) (now (held .entry)) (now (pcount .entry)) (now (proven .entry)) (now (counts .entry)) (now (words .entry))) roster own (now (line .entry)) (now (out .entry)) (record { answer = o .answer; sent = o .sent }) (siteOf views (o .marks) (now (hcount .exit)) (now (held .exit)) (now (pcount .exit)) (now (proven .exit)) (now (counts .exit)) (now (words .exit))) (now (out .exit)) ⌝ }
 {
-    let views = site.views;
-    let state = site.acceptor;
-    let o = acceptor::step(roster, own, views, state, line, out);
+    let o = acceptor::step_in_place(
+        roster,
+        own,
+        views,
+        marks,
+        hcount,
+        held,
+        pcount,
+        proven,
+        counts,
+        words,
+        line,
+        out,
+    );
     let said = o.answer;
-    let bytes = o.sent;
-    let acceptor = o.state;
+    let after = o.marks;
     SiteOutcome {
         answer: said.number(),
-        sent: bytes,
-        site: Site { views, acceptor },
+        sent: o.sent,
+        marks: after,
     }
 }
 
@@ -218,43 +236,76 @@ pub extern "C" fn speckleewe_acceptor<'a>(
     line: &'a [u8],
     out: &'a mut [u8],
 ) -> Reply
-    ensures { λ r. ⌜ accepts (now (site .entry)) roster own (now (line .entry)) (now (out .entry)) (siteLeft r (now (site .exit))) (now (out .exit)) ⌝ }
+    ensures { λ r. ⌜ accepts (now (site .entry)) roster own (now (line .entry)) (now (out .entry)) r (now (site .exit)) (now (out .exit)) ⌝ }
 {
-    let before = *site;
-    let o = acceptor_by_value(before, roster, own, line, out);
-    *site = o.site;
+    let marks = acceptor::Marks {
+        ballot: site.acceptor.ballot,
+        fast: site.acceptor.fast,
+        signed: site.acceptor.signed,
+        certified: site.acceptor.certified,
+        certificate: site.acceptor.certificate,
+    };
+    let o = acceptor_in_parts(
+        site.views,
+        marks,
+        &mut site.acceptor.held.count,
+        &mut site.acceptor.held.words,
+        &mut site.acceptor.proven.count,
+        &mut site.acceptor.proven.words,
+        &mut site.acceptor.verified.counts,
+        &mut site.acceptor.verified.words,
+        roster,
+        own,
+        line,
+        out,
+    );
+    site.acceptor.ballot = o.marks.ballot;
+    site.acceptor.fast = o.marks.fast;
+    site.acceptor.signed = o.marks.signed;
+    site.acceptor.certified = o.marks.certified;
+    site.acceptor.certificate = o.marks.certificate;
     Reply {
         answer: o.answer,
         sent: o.sent,
     }
 }
 
-// A leader's outcome, with its answer's number.
-fn told(o: leader::Outcome) -> LeaderOutcome
-    ensures { λ n. ⌜ n ≡ leaderOutcome o ⌝ }
-{
-    let heard = o.answer;
-    let bytes_sent = o.sent;
-    let kept = o.state;
-    LeaderOutcome {
-        answer: heard.number(),
-        sent: bytes_sent,
-        state: kept,
-    }
-}
-
-// A step of the leader of site `own`, by value.
-fn leader_by_value<'a>(
-    state: leader::State,
+// A step of the leader of site `own` on the parts of its state.
+fn leader_in_parts<'p, 'a>(
+    marks: leader::Marks,
+    count: &'p mut u8,
+    pending: &'p mut [u64; 32],
+    pcounts: &'p mut [u8; 16],
+    proven: &'p mut [u64; 512],
+    hcounts: &'p mut [u8; 16],
+    held: &'p mut [u64; 512],
     roster: Roster,
     own: u8,
     line: &'a [u8],
     out: &'a mut [u8],
 ) -> LeaderOutcome
-    ensures { λ o. ⌜ leads state roster own (now (line .entry)) (now (out .entry)) o (now (out .exit)) ⌝ }
+    ensures { λ o. ⌜ leads (leaderState marks (now (count .entry)) (now (pending .entry)) (now (pcounts .entry)) (now (proven .entry)) (now (hcounts .entry)) (now (held .entry))) roster own (now (line .entry)) (now (out .entry)) (record { answer = o .answer; sent = o .sent }) (leaderState (o .marks) (now (count .exit)) (now (pending .exit)) (now (pcounts .exit)) (now (proven .exit)) (now (hcounts .exit)) (now (held .exit))) (now (out .exit)) ⌝ }
 {
-    let o = leader::step(roster, own, state, line, out);
-    told(o)
+    let o = leader::step_in_place(
+        roster,
+        own,
+        marks,
+        count,
+        pending,
+        pcounts,
+        proven,
+        hcounts,
+        held,
+        line,
+        out,
+    );
+    let heard = o.answer;
+    let after = o.marks;
+    LeaderOutcome {
+        answer: heard.number(),
+        sent: o.sent,
+        marks: after,
+    }
 }
 
 // A step of the leader of site `own` on the state that the host lends.
@@ -266,45 +317,111 @@ pub extern "C" fn speckleewe_leader<'a>(
     line: &'a [u8],
     out: &'a mut [u8],
 ) -> Reply
-    ensures { λ r. ⌜ leads (now (state .entry)) roster own (now (line .entry)) (now (out .entry)) (leaderLeft r (now (state .exit))) (now (out .exit)) ⌝ }
+    ensures { λ r. ⌜ leads (now (state .entry)) roster own (now (line .entry)) (now (out .entry)) r (now (state .exit)) (now (out .exit)) ⌝ }
 {
-    let before = *state;
-    let o = leader_by_value(before, roster, own, line, out);
-    *state = o.state;
+    let marks = leader::Marks {
+        view: state.view,
+        ballot: state.ballot,
+        classic: state.classic,
+        reported: state.reported,
+    };
+    let o = leader_in_parts(
+        marks,
+        &mut state.pending.count,
+        &mut state.pending.words,
+        &mut state.proven.counts,
+        &mut state.proven.words,
+        &mut state.held.counts,
+        &mut state.held.words,
+        roster,
+        own,
+        line,
+        out,
+    );
+    state.view = o.marks.view;
+    state.ballot = o.marks.ballot;
+    state.classic = o.marks.classic;
+    state.reported = o.marks.reported;
     Reply {
         answer: o.answer,
         sent: o.sent,
     }
 }
 
-// The opening of a ballot by the leader of site `own`, by value.
-fn opening_by_value(
-    state: leader::State,
+// The opening of a ballot by the leader of site `own` on the parts of its state.
+fn opening_in_parts<'p, 'a>(
+    marks: leader::Marks,
+    count: &'p mut u8,
+    pending: &'p mut [u64; 32],
+    pcounts: &'p mut [u8; 16],
+    proven: &'p mut [u64; 512],
+    hcounts: &'p mut [u8; 16],
+    held: &'p mut [u64; 512],
     roster: Roster,
     own: u8,
     opening: Opening,
-    out: &mut [u8],
+    out: &'a mut [u8],
 ) -> LeaderOutcome
-    ensures { λ o. ⌜ opens state roster own opening (now (out .entry)) o (now (out .exit)) ⌝ }
+    ensures { λ o. ⌜ opens (leaderState marks (now (count .entry)) (now (pending .entry)) (now (pcounts .entry)) (now (proven .entry)) (now (hcounts .entry)) (now (held .entry))) roster own opening (now (out .entry)) (record { answer = o .answer; sent = o .sent }) (leaderState (o .marks) (now (count .exit)) (now (pending .exit)) (now (pcounts .exit)) (now (proven .exit)) (now (hcounts .exit)) (now (held .exit))) (now (out .exit)) ⌝ }
 {
-    let o = leader::open_ballot(roster, own, state, opening.ballot, opening.fast, out);
-    told(o)
+    let ballot = opening.ballot;
+    let o = leader::open_in_place(
+        roster,
+        own,
+        marks,
+        count,
+        pending,
+        pcounts,
+        proven,
+        hcounts,
+        held,
+        ballot,
+        opening.fast,
+        out,
+    );
+    let told = o.answer;
+    let left = o.marks;
+    LeaderOutcome {
+        answer: told.number(),
+        sent: o.sent,
+        marks: left,
+    }
 }
 
 // The opening of a ballot by the leader of site `own` on the state that the host lends.
 #[no_mangle]
-pub extern "C" fn speckleewe_open_ballot(
+pub extern "C" fn speckleewe_open_ballot<'a>(
     state: &mut leader::State,
     roster: Roster,
     own: u8,
     opening: Opening,
-    out: &mut [u8],
+    out: &'a mut [u8],
 ) -> Reply
-    ensures { λ r. ⌜ opens (now (state .entry)) roster own opening (now (out .entry)) (leaderLeft r (now (state .exit))) (now (out .exit)) ⌝ }
+    ensures { λ r. ⌜ opens (now (state .entry)) roster own opening (now (out .entry)) r (now (state .exit)) (now (out .exit)) ⌝ }
 {
-    let before = *state;
-    let o = opening_by_value(before, roster, own, opening, out);
-    *state = o.state;
+    let marks = leader::Marks {
+        view: state.view,
+        ballot: state.ballot,
+        classic: state.classic,
+        reported: state.reported,
+    };
+    let o = opening_in_parts(
+        marks,
+        &mut state.pending.count,
+        &mut state.pending.words,
+        &mut state.proven.counts,
+        &mut state.proven.words,
+        &mut state.held.counts,
+        &mut state.held.words,
+        roster,
+        own,
+        opening,
+        out,
+    );
+    state.view = o.marks.view;
+    state.ballot = o.marks.ballot;
+    state.classic = o.marks.classic;
+    state.reported = o.marks.reported;
     Reply {
         answer: o.answer,
         sent: o.sent,

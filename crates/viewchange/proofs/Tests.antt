@@ -1,7 +1,7 @@
 -- What the code's tests say in the words of the definitions.
 use mathlib.Core.Path.{_≡_, refl, sym, ap, _∙_}
 use mathlib.Core.Bool.{Bool, true, false, not, _&&_, _||_}
-use mathlib.Core.List.{List}
+use mathlib.Core.List.{List, []}
 use Prim.Native.Nat.{ℕ, _+_, _<_, _^_}
 use borrow.Author.Tests.{lt-leb}
 use lib.Dec.{leb, ltb, eqb}
@@ -14,7 +14,9 @@ use Rattle.refusal.specs.Rules.{judged}
 use Rattle.frame.specs.declared.Frame.{Frame}
 use Rattle.frame.specs.declared.Reading.{Reading}
 use Rattle.frame.specs.Format.{readingOf, malformed}
+use Rattle.words.specs.Words.{padded}
 use Rattle.site.specs.declared.ViewRecord.{ViewRecord}
+use Rattle.site.specs.Message.{message}
 use Rattle.site.specs.Reply.{silent, sends, sendsIf, Reply, refuse, accept, lengthSent, buffer}
 use Rattle.viewchange.specs.declared.Decision.{Decision}
 use Rattle.viewchange.specs.declared.Outcome.{Outcome}
@@ -163,6 +165,11 @@ unfolding notice
 step-own r own room v view c a b =
     step-heard r own room v (ownSuspicion own view) c (record { found = true; frame = notice suspicionKind own (view .0) 0 })
     (sym (own-read own view a b)) refl (lt-leb (r .n) own (configured-is r own room v c .seat .member))
+
+-- a frame with no commands
+pub bare-notice : (kind own : ℕ) (view : View) (mask : ℕ) → message kind own view (record { 0 = 0 }) (record { 0 = 0 }) mask [] [] ≡ notice kind own (view .0) mask
+unfolding notice padded
+bare-notice kind own view mask = refl
 
 -- ---- what is handed over: d is the decision, m the frame made of it, k the length of its line and l the buffer
 

@@ -3,7 +3,6 @@ ghost use mathlib.Core.Path.{_≡_};
 ghost use Rattle.site.specs.Reply as reply;
 ghost use Rattle.viewchange.specs.ViewChange as spec;
 ghost use Rattle.viewchange.specs.Decision as decision;
-use frame::Frame;
 use refusal::Answer;
 use refusal::Refusal;
 use roster::Ballot;
@@ -185,12 +184,11 @@ fn decide(r: Roster, own: u8, room: usize, v: ViewRecord, line: &[u8]) -> Decisi
     if unfit {
         return refuse(v, Refusal::Config);
     }
-    let reading = frame::read(line, TAKEN);
-    let found = reading.found;
+    let m = frame::read_bare(line, TAKEN);
+    let found = m.found;
     if !found {
         return refuse(v, Refusal::Form);
     }
-    let m = reading.frame;
     let unknown = r.n <= m.sender;
     if unknown {
         return refuse(v, Refusal::Sender);
@@ -203,30 +201,24 @@ fn decide(r: Roster, own: u8, room: usize, v: ViewRecord, line: &[u8]) -> Decisi
     change(r, own, v, m.sender, view, m.mask)
 }
 
-// A frame of this kind from `own`, for a view, with a mask.
-fn notice(kind: u8, own: u8, view: View, mask: u16) -> Frame
-    ensures { λ m. ⌜ m ≡ spec.notice kind own (view .0) mask ⌝ }
-{
-    Frame {
-        kind,
-        sender: own,
-        view,
-        ballot: Ballot(0),
-        proven: Ballot(0),
-        mask,
-        n: 0,
-        m: 0,
-        words: [0u64; 64],
-    }
-}
-
 // Hands over the frame that a decision of `own` names, and answers.
 fn answer(own: u8, d: Decision, out: &mut [u8]) -> Outcome
     ensures { λ o. ⌜ (o ≡ spec.outcome (decision.replied own d) (now (out .entry))) × (now (out .exit) ≡ reply.buffer (decision.replied own d .sending) (now (out .entry))) ⌝ }
 {
     let view = d.view;
-    let m = notice(d.kind, own, view, d.mask);
-    let sent = site::hand_over(d.sends, m, out);
+    let none: [u64; 0] = [];
+    let sent = site::send(
+        d.sends,
+        d.kind,
+        own,
+        view,
+        Ballot(0),
+        Ballot(0),
+        d.mask,
+        &none,
+        &none,
+        out,
+    );
     let given = d.answer;
     let views = d.views;
     Outcome {

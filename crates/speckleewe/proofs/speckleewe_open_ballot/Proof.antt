@@ -1,24 +1,16 @@
--- `speckleewe::speckleewe_open_ballot` meets its contract: the walk of a lent record, over the step by value.
+-- `speckleewe::speckleewe_open_ballot` meets its contract: the walk over the parts of the lent state, which its step changes in place.
 -- Assumes nothing.
-use mathlib.Core.Path.{refl}
-use mir.Syntax.{w8}
 use contract.Running.{givenOf, tables, tablesOf}
 use denote.Triple.Spec.{tripleOf}
 use denote.Triple.Table.{entered, cited}
-use Rattle.roster.proofs.Roster as roster
-use Rattle.roster.proofs.Roster.Laws as roster′
-use Rattle.leader.proofs.State as state
-use Rattle.leader.proofs.State.Laws as state′
-use Rattle.speckleewe.specs.declared.LeaderOutcome.{LeaderOutcome}
-use Rattle.speckleewe.specs.Outcomes.{leaderLeft, opens}
-use Rattle.speckleewe.proofs.LeaderOutcome as outcome
+use Rattle.speckleewe.specs.Outcomes.{opens}
 use Rattle.speckleewe.proofs.Opening as opening
 use Rattle.speckleewe.proofs.Opening.Laws as opening′
-use Rattle.speckleewe.proofs.Arguments.{number, struct}
-use Rattle.speckleewe.proofs.WithBuffer.{meets}
-use Rattle.speckleewe.proofs.opening_by_value as by-value
-use Rattle.speckleewe.proofs.opening_by_value.Symbol as step
-use Rattle.speckleewe.proofs.opening_by_value.Met as step-met
+use Rattle.speckleewe.proofs.Arguments.{struct}
+use Rattle.speckleewe.proofs.LeaderInPlace.{meets}
+use Rattle.speckleewe.proofs.opening_in_parts as in-parts
+use Rattle.speckleewe.proofs.opening_in_parts.Symbol as step
+use Rattle.speckleewe.proofs.opening_in_parts.Met as step-met
 use Rattle.speckleewe.proofs.speckleewe_open_ballot as entry
 use Rattle.speckleewe.proofs.speckleewe_open_ballot.Key as key
 use Rattle.speckleewe.proofs.speckleewe_open_ballot.Statement.{statement}
@@ -29,9 +21,7 @@ unfolding code.routine tablesOf
 speckleewe-open-ballot-spec 𝓤 H 𝓜 𝓖 𝓡 =
     entered 𝓤 H (tripleOf 𝓤 H (𝓖 .A) entry.signature (entry.spec 𝓤 H (𝓖 .A) (𝓜 .mem) (𝓡 .run)))
     (tables 𝓤 H 𝓜 𝓡 code.env .C) (tables 𝓤 H 𝓜 𝓡 code.env .Λ) key.name code.function (code.unfolded 𝓤 H 𝓜 𝓡)
-    (meets state.the-type state′.the-laws state′.lowers state′.the-plain
-    (outcome.struct .name) LeaderOutcome (outcome.struct .as-values) (outcome.the-type .to-one)
-    (struct roster.the-type roster′.the-laws) (number w8) (struct opening.the-type opening′.the-laws) (λ κ. opens) leaderLeft (λ d. refl)
+    (meets (struct opening.the-type opening′.the-laws) (λ κ s r own p out a t buffer. opens s r own p out a t buffer)
     𝓤 H (𝓖 .A) (givenOf 𝓤 H 𝓜 𝓖) step.name (tablesOf 𝓤 H 𝓜 (tables 𝓤 H 𝓜 𝓡 code.env))
-    (cited 𝓤 H (tripleOf 𝓤 H (𝓖 .A) by-value.signature (by-value.spec 𝓤 H (𝓖 .A) (𝓜 .mem) (𝓡 .run)))
-    𝓜 𝓡 code.env step.name step.routine code.calls-speckleewe·opening-by-value (step-met.met 𝓤 H 𝓜 𝓖 𝓡)))
+    (cited 𝓤 H (tripleOf 𝓤 H (𝓖 .A) in-parts.signature (in-parts.spec 𝓤 H (𝓖 .A) (𝓜 .mem) (𝓡 .run)))
+    𝓜 𝓡 code.env step.name step.routine code.calls-speckleewe·opening-in-parts (step-met.met 𝓤 H 𝓜 𝓖 𝓡)))

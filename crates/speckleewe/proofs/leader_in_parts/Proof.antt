@@ -1,0 +1,27 @@
+-- `speckleewe::leader_in_parts` meets its contract: the step's answer with its number, and the parts and the buffer as the step leaves them.
+-- Assumes nothing.
+use mathlib.Core.Path.{ap, _∙_}
+use borrow.Author.Needs.{needs}
+use Rattle.speckleewe.specs.Outcomes.{leaderGiven, leaderState}
+use Rattle.speckleewe.proofs.leader_in_parts.Statement.{statement}
+use Rattle.speckleewe.proofs.leader_in_parts.Tie as tie
+
+step-in-place-requires : tie.Need-step-in-place-requires
+step-in-place-requires c κs = search needs
+
+number-requires : tie.Need-number-requires
+number-requires c κs = search needs
+
+same-length : tie.Need-same-length
+same-length c = search needs
+
+returns : tie.Need-returns
+returns c = (
+  (λ i. record { reply = record { answer = c .number .ensures i; sent = c .before .before .before .before .step-in-place .result .sent }; after = leaderState (c .before .before .before .before .step-in-place .result .marks) (c .before .before .before .before .step-in-place .last .1 .1 .1 .0) (c .before .before .before .before .step-in-place .last .1 .1 .1 .1 .0) (c .before .before .before .before .step-in-place .last .1 .1 .1 .1 .1 .0) (c .before .before .before .before .step-in-place .last .1 .1 .1 .1 .1 .1 .0) (c .before .before .before .before .step-in-place .last .1 .1 .1 .1 .1 .1 .1 .0) (c .before .before .before .before .step-in-place .last .1 .1 .1 .1 .1 .1 .1 .1 .0) })
+      ∙ ap leaderGiven (c .before .before .before .before .step-in-place .ensures .0),
+  c .before .before .before .before .step-in-place .ensures .1,
+)
+
+pub leader-in-parts-spec : {M : Type 1} → statement M
+leader-in-parts-spec =
+    tie.close (tie.spec step-in-place-requires number-requires same-length returns)
