@@ -8,7 +8,7 @@ use lib.ListN.{length, take, drop}
 use lib.Seq.{length-take-le}
 use Rattle.history.specs.History.{extends}
 use Rattle.history.specs.Words.{padded, extendsWithin}
-use Rattle.words.specs.WordsLaws.{padded-whole, take-padded}
+use Rattle.words.specs.WordsLaws.{take-padded}
 use Rattle.history.specs.WordsLaws.{extends-within}
 use Rattle.merge.specs.Merge.{appendedIn}
 use Rattle.merge.specs.AppendingLaws.{appended-in-work, take-appended, append-bound}
@@ -106,7 +106,7 @@ pub grown : {d : Verdict} (own : ℕ) (k : Marks) (x w l more : List ℕ) → x 
     → ruled d (l ++ more) ≡ onUnion own k w
 grown own k x w l more e a = ruled-kept (l ++ more) (onUnion own k x) (rw (a .1) (kept-union own k x more)) (a .0) ∙ ap (onUnion own k) e
 
--- ---- a line: o is what reading it found, w the buffer with its words
+-- ---- a line: o is what reading it found
 
 module _ (r : Roster) (own : ℕ) (view : View) (k : Marks) (held proven words counts line : List ℕ) where
   read-none : readingOf line taken .found ≡ false → against k Form ≡ onReading r own view k held proven words counts line
@@ -122,11 +122,9 @@ module _ (r : Roster) (own : ℕ) (view : View) (k : Marks) (held proven words c
     pub line-form : o .found ≡ false → against k Form ≡ onReading r own view k held proven words counts line
     line-form p = read-none (rw e at p)
 
-    pub line-frame : o .found ≡ true → (n : ℕ) (w : List ℕ) → w ≡ padded n (o .frame .words) → n ≡ length (o .frame .words)
-        → onFrame r own view k held proven words counts (headingOf (o .frame)) w ≡ onReading r own view k held proven words counts line
-    line-frame p n w f q =
-        let whole : w ≡ o .frame .words = f ∙ ap (λ (i : ℕ). padded i (o .frame .words)) q ∙ padded-whole (o .frame .words) in
-        rw (whole, e) (read-frame (rw e at p))
+    pub line-frame : o .found ≡ true
+        → onFrame r own view k held proven words counts (headingOf (o .frame)) (o .frame .words) ≡ onReading r own view k held proven words counts line
+    line-frame p = rw e (read-frame (rw e at p))
 
 -- a line in a state: b is the test of CONFIG, h and g are what is held and what is proven
 pub line-tested : (r : Roster) (own room : ℕ) (v : ViewRecord) (s : State) (line h g : List ℕ) (b : Bool) → b ≡ config r own room v s → h ≡ heldOf s → g ≡ provenOf s

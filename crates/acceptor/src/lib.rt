@@ -612,26 +612,24 @@ fn receive<'a>(
     words: &'a [u64],
     counts: &'a [u8],
     line: &[u8],
-    buf: &mut [u64],
+    buf: &mut [u64; 64],
 ) -> Verdict
-    requires { ⌜ (verdict.Short r (now held)) × (length (now buf) ≡ 64) ⌝ }
+    requires { ⌜ verdict.Short r (now held) ⌝ }
     ensures { λ d. ⌜ verdict.ruled d (now (buf .exit)) ≡ verdict.onReading r own view marks (now (held .entry)) (now (proven .entry)) (now (words .entry)) (now (counts .entry)) (now (line .entry)) ⌝ }
 {
-    let reading = frame::read(line, TAKEN);
-    let found = reading.found;
+    let f = frame::read_into(line, TAKEN, buf);
+    let found = f.found;
     if !found {
         return against(marks, Refusal::Form);
     }
-    let all: &[u64] = &reading.frame.words;
-    history::fill(buf, all);
-    let asked = reading.frame.view;
-    let ballot = reading.frame.ballot;
+    let asked = f.view;
+    let ballot = f.ballot;
     let e = Heading {
-        kind: reading.frame.kind,
-        sender: reading.frame.sender,
+        kind: f.kind,
+        sender: f.sender,
         view: asked,
         ballot,
-        n: reading.frame.n,
+        n: f.n,
     };
     hear(r, own, view, marks, held, proven, words, counts, e, buf)
 }
@@ -648,9 +646,9 @@ fn judge<'a>(
     words: &'a [u64],
     counts: &'a [u8],
     line: &[u8],
-    buf: &mut [u64],
+    buf: &mut [u64; 64],
 ) -> Verdict
-    requires { ⌜ (unfit ≡ false → verdict.Short r (now held)) × (length (now buf) ≡ 64) ⌝ }
+    requires { ⌜ (unfit ≡ false → verdict.Short r (now held)) ⌝ }
     ensures { λ d. ⌜ verdict.ruled d (now (buf .exit)) ≡ verdict.onTested unfit r own view marks (now (held .entry)) (now (proven .entry)) (now (words .entry)) (now (counts .entry)) (now (line .entry)) ⌝ }
 {
     if unfit {
@@ -663,7 +661,8 @@ fn judge<'a>(
 fn report<'a>(own: u8, marks: Marks, held: &'a [u64], proven: &'a [u64], out: &mut [u8]) -> usize
     ensures { λ k. ⌜ verdict.Handed (sends (verdict.report own marks (now (held .entry)) (now (proven .entry)))) k (now (out .entry)) (now (out .exit)) ⌝ }
 {
-    let m = site::message(
+    site::send(
+        true,
         P1B,
         own,
         View(0),
@@ -672,8 +671,8 @@ fn report<'a>(own: u8, marks: Marks, held: &'a [u64], proven: &'a [u64], out: &m
         marks.certificate,
         proven,
         held,
-    );
-    site::hand_over(true, m, out)
+        out,
+    )
 }
 
 // Sends a frame of this kind for one history.
@@ -689,8 +688,18 @@ fn notify(
     ensures { λ k. ⌜ verdict.Handed (sends (verdict.notice kind own view ballot mask (now (h .entry)))) k (now (out .entry)) (now (out .exit)) ⌝ }
 {
     let none: [u64; 0] = [];
-    let m = site::message(kind, own, view, ballot, Ballot(0), mask, h, &none);
-    site::hand_over(true, m, out)
+    site::send(
+        true,
+        kind,
+        own,
+        view,
+        ballot,
+        Ballot(0),
+        mask,
+        h,
+        &none,
+        out,
+    )
 }
 
 // Sends the frame that a verdict on h asks for: P1B, VERIFY, P2B, or none.
@@ -774,6 +783,14 @@ fn finish(d: Verdict, sent: usize) -> Settled
     }
 }
 
+// The first n words of a frame's, or all of them.
+fn front<'a>(buf: &'a [u64; 64], n: usize) -> &'a [u64]
+    ensures { λ h. ⌜ now h ≡ take n (now (buf .entry)) ⌝ }
+{
+    let all: &'a [u64] = buf;
+    history::first(all, n)
+}
+
 // One step in place, on the parts of an acceptor's state: the answer to a line, how much of the buffer is to be sent, and the marks after it. The
 // parts are left as those of the state after it. Any line is answered, in any state.
 pub fn step_in_place(
@@ -805,8 +822,7 @@ pub fn step_in_place(
     let k = history::first(theirs, m as usize);
     let view = v.view;
     let d = judge(unfit, r, own, view, marks, g, k, rows, sums, line, &mut buf);
-    let all: &[u64] = &buf;
-    let h = history::first(all, d.count);
+    let h = front(&buf, d.count);
     let sent = reply(own, view, d, h, g, k, out);
     replace(d.signs, h, held_count, held);
     replace(d.proves, h, proven_count, proven);

@@ -12,26 +12,16 @@ against-requires c κs = search needs
 returns : tie.Need-returns
 unfolding judged
 returns c =
-    let if1 = c .before .if1 in
-    let given = c .before .before .before .before .before .before .before .before .args in
-    let against-call = c .against in
-    rw (if1 .taken) (refusing (given .buf .now) (against-call .ensures))
+    rw (c .before .if1 .taken) (refusing (c .before .before .before .before .before .before .before .args .buf .now) (c .against .ensures))
 
 receive-requires : tie.Need-receive-requires
 receive-requires c κs =
-    let sizes = c .before .before .before .before .before .before .before .before .pre in
-    let if1 = c .before .if1 in
-    (sizes .0 (if1 .left), sizes .1)
-
-same-length : tie.Need-same-length
-same-length c = search needs
+    c .before .before .before .before .before .before .before .pre (c .before .if1 .left)
 
 returns-2 : tie.Need-returns-2
 unfolding judged
 returns-2 c =
-    let if1 = c .before .before .before .before .if1 in
-    let receive-call = c .before .before .receive in
-    rw (if1 .left) (receive-call .ensures)
+    rw (c .before .before .if1 .left) (c .receive .ensures)
 
 pub judge-spec : {M : Type 1} → statement M
-judge-spec = tie.close (tie.spec against-requires returns receive-requires same-length returns-2)
+judge-spec = tie.close (tie.spec against-requires returns receive-requires returns-2)

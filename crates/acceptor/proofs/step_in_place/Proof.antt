@@ -20,22 +20,14 @@ first-requires c κs = search needs
 first-requires-2 : tie.Need-first-requires-2
 first-requires-2 c κs = search needs
 
-slice-aggregate-judge : tie.Need-slice-aggregate-judge
-slice-aggregate-judge c = search needs
-
 judge-requires : tie.Need-judge-requires
 judge-requires c κs =
     let given = c .before .before .before .before .before .before .before .before .before .before .before .before .before .before .before .before .before .args in
-    let first-call = c .before .before .before .first in
-    let config-call = c .before .before .before .before .config in
     let s = (stateOf (given .marks) (given .held-count .now) (given .held .now) (given .proven-count .now) (given .proven .now) (given .counts .now) (given .words .now)) in
-    (λ e. rw (first-call .ensures) (fit (given .r) (given .own) (length (given .out .now)) (given .v) s (sym (config-call .ensures) ∙ e) .short), search needs)
+    (λ e. rw (c .before .before .before .first .ensures) (fit (given .r) (given .own) (length (given .out .now)) (given .v) s (sym (c .before .before .before .before .config .ensures) ∙ e) .short))
 
-slice-aggregate-all : tie.Need-slice-aggregate-all
-slice-aggregate-all c = search needs
-
-first-requires-3 : tie.Need-first-requires-3
-first-requires-3 c κs = search needs
+front-requires : tie.Need-front-requires
+front-requires c κs = search needs
 
 reply-requires : tie.Need-reply-requires
 reply-requires c κs = search needs
@@ -57,14 +49,14 @@ same-length c = search needs
 
 returns : tie.Need-returns
 returns c =
-    let given = c .before .before .before .before .before .before .before .before .before .before .before .before .before .before .before .before .before .before .before .before .before .before .before .before .before .before .before .before .before .before .before .before .before .before .before .args in
-    let judge-call = c .before .before .before .before .before .before .before .before .before .before .before .before .before .before .before .before .before .judge in
-    let first-call = c .before .before .before .before .before .before .before .before .before .before .before .before .before .before .before .before .before .before .before .before .before .first in
-    let first2-call = c .before .before .before .before .before .before .before .before .before .before .before .before .before .before .before .before .before .before .before .before .first2 in
-    let config-call = c .before .before .before .before .before .before .before .before .before .before .before .before .before .before .before .before .before .before .before .before .before .before .config in
-    let sums2-call = c .before .before .before .before .before .before .before .before .before .before .before .before .before .before .before .before .before .before .before .before .before .before .before .before .before .sums2 in
-    let rows2-call = c .before .before .before .before .before .before .before .before .before .before .before .before .before .before .before .before .before .before .before .before .before .before .before .rows2 in
-    let first3-call = c .before .before .before .before .before .before .before .before .before .before .before .before .before .before .first3 in
+    let given = c .before .before .before .before .before .before .before .before .before .before .before .before .before .before .before .before .before .before .before .before .before .before .before .before .before .before .before .before .before .before .before .before .before .before .args in
+    let judge-call = c .before .before .before .before .before .before .before .before .before .before .before .before .before .before .before .before .judge in
+    let first-call = c .before .before .before .before .before .before .before .before .before .before .before .before .before .before .before .before .before .before .before .before .first in
+    let first2-call = c .before .before .before .before .before .before .before .before .before .before .before .before .before .before .before .before .before .before .before .first2 in
+    let config-call = c .before .before .before .before .before .before .before .before .before .before .before .before .before .before .before .before .before .before .before .before .before .config in
+    let sums2-call = c .before .before .before .before .before .before .before .before .before .before .before .before .before .before .before .before .before .before .before .before .before .before .before .before .sums2 in
+    let rows2-call = c .before .before .before .before .before .before .before .before .before .before .before .before .before .before .before .before .before .before .before .before .before .before .rows2 in
+    let front-call = c .before .before .before .before .before .before .before .before .before .before .before .before .before .before .front in
     let finish-call = c .finish in
     let reply-call = c .before .before .before .before .before .before .before .before .before .before .before .before .reply in
     let replace-call = c .before .before .before .before .before .before .before .replace in
@@ -77,8 +69,22 @@ returns c =
     ∙ line-tested (given .r) (given .own) (length (given .out .now)) (given .v) s (given .line .now) (now (first-call .result)) (now (first2-call .result)) (config-call .result) (config-call .ensures) (first-call .ensures) (first2-call .ensures))
     ∙ settled-line (given .r) (given .own) (given .v) s (length (given .out .now)) (given .line .now)
     (record { counts-length = omega (arith, sums2-call .given); words-length = omega (arith, rows2-call .given) }))
-    (now (first3-call .result)) (now (first-call .result)) (now (first2-call .result)) _ _ _ _ _ _ _ _ (finish-call .result)
-    (first3-call .ensures) (first-call .ensures) (first2-call .ensures) (reply-call .ensures) (replace-call .ensures) (replace2-call .ensures) (update-call .ensures) (finish-call .ensures)
+    (now (front-call .result)) (now (first-call .result)) (now (first2-call .result)) _ _ _ _ _ _ _ _ (finish-call .result)
+    (front-call .ensures) (first-call .ensures) (first2-call .ensures) (reply-call .ensures) (replace-call .ensures) (replace2-call .ensures) (update-call .ensures) (finish-call .ensures)
 
 pub step-in-place-spec : {M : Type 1} → statement M
-step-in-place-spec = tie.close (tie.spec config-requires first-requires first-requires-2 slice-aggregate-judge judge-requires slice-aggregate-all first-requires-3 reply-requires replace-requires replace-requires-2 update-requires finish-requires same-length returns)
+step-in-place-spec =
+    tie.close
+    (tie.spec
+    config-requires
+    first-requires
+    first-requires-2
+    judge-requires
+    front-requires
+    reply-requires
+    replace-requires
+    replace-requires-2
+    update-requires
+    finish-requires
+    same-length
+    returns)
