@@ -9,11 +9,11 @@ ghost use Rattle.history.specs.Words.{limit, stored};
 ghost use Rattle.merge.specs.Merge.{appended};
 ghost use Rattle.proposal.specs.Proposal.{remaining};
 ghost use Rattle.roster.specs.Mask.{withSite};
-ghost use Rattle.site.specs.Reply.{buffer, lengthSent};
+ghost use Rattle.frame.specs.Format.{frameWith};
+ghost use Rattle.site.specs.Reply.{buffer, lengthSent, sends};
 ghost use Rattle.site.specs.Site.{isSet};
 ghost use Rattle.leader.specs.Leader as spec;
 ghost use Rattle.leader.specs.Parts as parts;
-use frame::Frame;
 use history::History;
 use refusal::Answer;
 use refusal::Refusal;
@@ -381,8 +381,18 @@ fn send_p2a(own: u8, view: View, ballot: Ballot, h: &[u64], out: &mut [u8]) -> u
     ensures { λ k. ⌜ (k ≡ lengthSent (parts.sendsP2a own view ballot (now (h .entry))) (now (out .entry))) × (now (out .exit) ≡ buffer (parts.sendsP2a own view ballot (now (h .entry))) (now (out .entry))) ⌝ }
 {
     let none: [u64; 0] = [];
-    let m = site::message(P2A, own, view, ballot, Ballot(0), 0, h, &none);
-    site::hand_over(!(h.len() == 0), m, out)
+    site::send(
+        !(h.len() == 0),
+        P2A,
+        own,
+        view,
+        ballot,
+        Ballot(0),
+        0,
+        h,
+        &none,
+        out,
+    )
 }
 
 // On report N-f, proposes a history of the reports and of what is pending, and keeps pending what it does not hold. Before that, nothing.
@@ -517,9 +527,9 @@ fn settle(
 }
 
 impl Heading {
-    // A frame's heading.
-    fn of(m: Frame) -> Heading
-        ensures { λ f. ⌜ f ≡ parts.headingOf m ⌝ }
+    // A frame's heading, as it was read.
+    fn of(m: frame::Heading) -> Heading
+        ensures { λ f. ⌜ f ≡ parts.headingOf (frameWith m []) ⌝ }
     {
         let view = m.view;
         let ballot = m.ballot;
@@ -535,6 +545,13 @@ impl Heading {
             m: m.m,
         }
     }
+}
+
+// A frame's words as a list.
+fn list<'a>(words: &'a [u64; 64]) -> &'a [u64]
+    ensures { λ l. ⌜ now l ≡ now (words .entry) ⌝ }
+{
+    words
 }
 
 // One step in place, on the parts of a leader's state: the answer to a line, how much of the buffer is to be sent, and the marks after it. Any line is
@@ -554,10 +571,10 @@ pub fn step_in_place(
 ) -> Settled
     ensures { λ o. ⌜ parts.Done (spec.step r own (length (now (out .entry))) (parts.stateOf marks (now (count .entry)) (now (pending .entry)) (now (pcounts .entry)) (now (proven .entry)) (now (hcounts .entry)) (now (held .entry))) (now (line .entry))) (now (out .entry)) (parts.outcomeOf o (now (count .exit)) (now (pending .exit)) (now (pcounts .exit)) (now (proven .exit)) (now (hcounts .exit)) (now (held .exit))) (now (out .exit)) ⌝ }
 {
-    let reading = frame::read(line, TAKEN);
-    let m = reading.frame;
+    let mut read = [0u64; 64];
+    let m = frame::read_into(line, TAKEN, &mut read);
     let f = Heading::of(m);
-    let words: &[u64] = &m.words;
+    let words = list(&read);
     let room = out.len();
     let answer = check(
         r,
@@ -570,7 +587,7 @@ pub fn step_in_place(
         proven,
         hcounts,
         held,
-        reading.found,
+        m.found,
         f,
         words,
     );
@@ -609,13 +626,24 @@ fn pick(first: bool, a: u8, b: u8) -> u8
     if first { a } else { b }
 }
 
-// The frame that opens a ballot: FAST where the flag is set, else P1A.
-fn invitation(own: u8, view: View, ballot: Ballot, fast: u8) -> Frame
-    ensures { λ m. ⌜ m ≡ spec.invitation own view ballot fast ⌝ }
+// Sends the frame that opens a ballot, FAST where the flag is set, else P1A, and answers the length of its line.
+fn invite(own: u8, view: View, ballot: Ballot, fast: u8, out: &mut [u8]) -> usize
+    ensures { λ k. ⌜ (k ≡ lengthSent (sends (spec.invitation own view ballot fast)) (now (out .entry))) × (now (out .exit) ≡ buffer (sends (spec.invitation own view ballot fast)) (now (out .entry))) ⌝ }
 {
     let none: [u64; 0] = [];
     let kind = pick(!(fast == 0), FAST, P1A);
-    site::message(kind, own, view, ballot, Ballot(0), 0, &none, &none)
+    site::send(
+        true,
+        kind,
+        own,
+        view,
+        ballot,
+        Ballot(0),
+        0,
+        &none,
+        &none,
+        out,
+    )
 }
 
 // The marks in a ballot that was just opened.
@@ -676,7 +704,7 @@ pub fn open_in_place(
             marks,
         };
     }
-    let sent = site::hand_over(true, invitation(own, marks.view, ballot, fast), out);
+    let sent = invite(own, marks.view, ballot, fast, out);
     *pcounts = [0u8; 16];
     *proven = [0u64; 512];
     *hcounts = [0u8; 16];

@@ -1,6 +1,6 @@
 -- `leader::open_in_place` meets its contract: it asks the tests of CONFIG and STALE in their order, hands over the frame that opens the ballot, and clears the tables.
 -- Assumes nothing.
-use mathlib.Core.Path.{sym, _∙_}
+use mathlib.Core.Path.{refl, sym, _∙_}
 use borrow.Author.Tests.{not-true, not-false}
 use Rattle.table.specs.Table.{emptyTable}
 use Rattle.leader.specs.Parts.{stateOf}
@@ -14,22 +14,17 @@ config-requires c κs = search needs
 
 returns : tie.Need-returns
 returns c =
-    let given = c .before .before .before .before .before .before .before .before .before .before .before .before .before .before .args in
-    opens-unfit (given .r) (given .own) (stateOf (given .marks) (given .count .now) (given .pending .now) (given .pcounts .now) (given .proven .now) (given .hcounts .now) (given .held .now)) (given .ballot) (given .fast) (given .out .now) (sym (c .before .config .ensures) ∙ c .if1 .taken)
+    opens-unfit (c .before .before .before .before .before .before .before .before .before .before .before .before .before .before .args .r) (c .before .before .before .before .before .before .before .before .before .before .before .before .before .before .args .own) (stateOf (c .before .before .before .before .before .before .before .before .before .before .before .before .before .before .args .marks) (c .before .before .before .before .before .before .before .before .before .before .before .before .before .before .args .count .now) (c .before .before .before .before .before .before .before .before .before .before .before .before .before .before .args .pending .now) (c .before .before .before .before .before .before .before .before .before .before .before .before .before .before .args .pcounts .now) (c .before .before .before .before .before .before .before .before .before .before .before .before .before .before .args .proven .now) (c .before .before .before .before .before .before .before .before .before .before .before .before .before .before .args .hcounts .now) (c .before .before .before .before .before .before .before .before .before .before .before .before .before .before .args .held .now)) (c .before .before .before .before .before .before .before .before .before .before .before .before .before .before .args .ballot) (c .before .before .before .before .before .before .before .before .before .before .before .before .before .before .args .fast) (c .before .before .before .before .before .before .before .before .before .before .before .before .before .before .args .out .now) (sym (c .before .config .ensures) ∙ c .if1 .taken)
 
 may-open-requires : tie.Need-may-open-requires
 may-open-requires c κs = search needs
 
 returns-2 : tie.Need-returns-2
 returns-2 c =
-    let given = c .before .before .before .before .before .before .before .before .before .before .before .before .before .before .before .before .args in
-    opens-stale (given .r) (given .own) (stateOf (given .marks) (given .count .now) (given .pending .now) (given .pcounts .now) (given .proven .now) (given .hcounts .now) (given .held .now)) (given .ballot) (given .fast) (given .out .now) (sym (c .before .before .before .config .ensures) ∙ c .before .before .if1 .left) (sym (c .before .may-open .ensures) ∙ not-true _ (c .if2 .taken))
+    opens-stale (c .before .before .before .before .before .before .before .before .before .before .before .before .before .before .before .before .args .r) (c .before .before .before .before .before .before .before .before .before .before .before .before .before .before .before .before .args .own) (stateOf (c .before .before .before .before .before .before .before .before .before .before .before .before .before .before .before .before .args .marks) (c .before .before .before .before .before .before .before .before .before .before .before .before .before .before .before .before .args .count .now) (c .before .before .before .before .before .before .before .before .before .before .before .before .before .before .before .before .args .pending .now) (c .before .before .before .before .before .before .before .before .before .before .before .before .before .before .before .before .args .pcounts .now) (c .before .before .before .before .before .before .before .before .before .before .before .before .before .before .before .before .args .proven .now) (c .before .before .before .before .before .before .before .before .before .before .before .before .before .before .before .before .args .hcounts .now) (c .before .before .before .before .before .before .before .before .before .before .before .before .before .before .before .before .args .held .now)) (c .before .before .before .before .before .before .before .before .before .before .before .before .before .before .before .before .args .ballot) (c .before .before .before .before .before .before .before .before .before .before .before .before .before .before .before .before .args .fast) (c .before .before .before .before .before .before .before .before .before .before .before .before .before .before .before .before .args .out .now) (sym (c .before .before .before .config .ensures) ∙ c .before .before .if1 .left) (sym (c .before .may-open .ensures) ∙ not-true _ (c .if2 .taken))
 
-invitation-requires : tie.Need-invitation-requires
-invitation-requires c κs = search needs
-
-hand-over-requires : tie.Need-hand-over-requires
-hand-over-requires c κs = search needs
+invite-requires : tie.Need-invite-requires
+invite-requires c κs = search needs
 
 opened-requires : tie.Need-opened-requires
 opened-requires c κs = search needs
@@ -40,8 +35,7 @@ same-length c = search needs
 returns-3 : tie.Need-returns-3
 unfolding emptyTable
 returns-3 c =
-    let given = c .before .before .before .before .before .before .before .before .before .before .before .before .before .before .before .before .before .before .before .before .before .before .before .before .before .before .args in
-    opens (given .r) (given .own) (stateOf (given .marks) (given .count .now) (given .pending .now) (given .pcounts .now) (given .proven .now) (given .hcounts .now) (given .held .now)) (given .ballot) (given .fast) (given .out .now) (sym (c .before .before .before .before .before .before .before .before .before .before .before .before .before .config .ensures) ∙ c .before .before .before .before .before .before .before .before .before .before .before .before .if1 .left) (sym (c .before .before .before .before .before .before .before .before .before .before .before .may-open .ensures) ∙ not-false _ (c .before .before .before .before .before .before .before .before .before .before .if2 .left)) (c .before .before .before .before .before .before .before .before .before .invitation .result) _ _ _ (c .before .before .before .before .before .before .before .before .before .invitation .ensures) (rw (c .opened .ensures)) (c .before .before .before .before .before .before .before .hand-over .ensures)
+    opens (c .before .before .before .before .before .before .before .before .before .before .before .before .before .before .before .before .before .before .before .before .before .before .before .before .before .args .r) (c .before .before .before .before .before .before .before .before .before .before .before .before .before .before .before .before .before .before .before .before .before .before .before .before .before .args .own) (stateOf (c .before .before .before .before .before .before .before .before .before .before .before .before .before .before .before .before .before .before .before .before .before .before .before .before .before .args .marks) (c .before .before .before .before .before .before .before .before .before .before .before .before .before .before .before .before .before .before .before .before .before .before .before .before .before .args .count .now) (c .before .before .before .before .before .before .before .before .before .before .before .before .before .before .before .before .before .before .before .before .before .before .before .before .before .args .pending .now) (c .before .before .before .before .before .before .before .before .before .before .before .before .before .before .before .before .before .before .before .before .before .before .before .before .before .args .pcounts .now) (c .before .before .before .before .before .before .before .before .before .before .before .before .before .before .before .before .before .before .before .before .before .before .before .before .before .args .proven .now) (c .before .before .before .before .before .before .before .before .before .before .before .before .before .before .before .before .before .before .before .before .before .before .before .before .before .args .hcounts .now) (c .before .before .before .before .before .before .before .before .before .before .before .before .before .before .before .before .before .before .before .before .before .before .before .before .before .args .held .now)) (c .before .before .before .before .before .before .before .before .before .before .before .before .before .before .before .before .before .before .before .before .before .before .before .before .before .args .ballot) (c .before .before .before .before .before .before .before .before .before .before .before .before .before .before .before .before .before .before .before .before .before .before .before .before .before .args .fast) (c .before .before .before .before .before .before .before .before .before .before .before .before .before .before .before .before .before .before .before .before .before .before .before .before .before .args .out .now) (sym (c .before .before .before .before .before .before .before .before .before .before .before .before .config .ensures) ∙ c .before .before .before .before .before .before .before .before .before .before .before .if1 .left) (sym (c .before .before .before .before .before .before .before .before .before .before .may-open .ensures) ∙ not-false _ (c .before .before .before .before .before .before .before .before .before .if2 .left)) _ _ _ _ refl (rw (c .opened .ensures)) (c .before .before .before .before .before .before .before .invite .ensures)
 
 pub open-in-place-spec : {M : Type 1} → statement M
 open-in-place-spec =
@@ -51,8 +45,7 @@ open-in-place-spec =
     returns
     may-open-requires
     returns-2
-    invitation-requires
-    hand-over-requires
+    invite-requires
     opened-requires
     same-length
     returns-3)
