@@ -16,7 +16,7 @@ use Rattle.frame.specs.Hex.{digit, isDigit, valueOf, allDigits, byteOf, 
 use Rattle.frame.specs.HexLaws.{Byte, byte-of, value-lt}
 use Rattle.frame.specs.Kinds.{uses, isKind, zeroUnless}
 use Rattle.frame.specs.Format.{allZero}
-use Rattle.frame.specs.Leaves.{digitIn, numberIn, properHeader}
+use Rattle.frame.specs.Leaves.{fullStop, digitIn, numberIn, properHeader}
 use Rattle.frame.specs.Tests.{and-left, and-right, and-both, everyBelow, every-at}
 
 -- what is left of a list at i is its element there and what is left after it
@@ -80,7 +80,7 @@ fine-is : (c : ℕ) → ltb (digitIn c) 16 ≡ isDigit c
 unfolding digitIn
 fine-is c = go (isDigit c) refl
   where
-    go : (b : Bool) → isDigit c ≡ b → ltb (cond b (valueOf c) 255) 16 ≡ b
+    go : (b : Bool) → isDigit c ≡ b → ltb (cond b (valueOf c) fullStop) 16 ≡ b
     go true e = lt-ltb (valueOf c) 16 (value-lt c e)
     go false e = refl
 

@@ -14,18 +14,21 @@ use Rattle.frame.specs.Layout.{limit, widths, withValues, count, lineLen
 use Rattle.frame.specs.Kinds.{uses, isKind, zeroUnless}
 use Rattle.frame.specs.Format.{frameOf, lineFeed, nothing, readingOf}
 
--- the digit that a character is; 255 for what is none
+-- the digit that a character is; for what is none a full stop, which is more than any digit
+abbrev pub fullStop : ℕ
+fullStop = 46
+
 unfoldable pub digitIn : ℕ → ℕ
-digitIn c = cond (isDigit c) (valueOf c) 255
+digitIn c = cond (isDigit c) (valueOf c) fullStop
 
 -- the list of what a rule gives at each number below n
-abbrev pub tabled : {A : Type 0} → ℕ → (ℕ → A) → List A
+abbrev pub tabled : ℕ → (ℕ → ℕ) → List ℕ
 tabled zero rule = []
 tabled (suc n) rule = rule 0 ∷ tabled n (λ k. rule (suc k))
 
--- the table of the digits that characters are, in sixteen rows of sixteen, and that of the characters of digits
-unfoldable pub values : List (List ℕ)
-values = tabled 16 (λ r. tabled 16 (λ k. digitIn (16 * r + k)))
+-- the table of the digits that characters are, and that of the characters of digits
+unfoldable pub values : List ℕ
+values = tabled 256 digitIn
 
 unfoldable pub characters : List ℕ
 characters = tabled 16 digit

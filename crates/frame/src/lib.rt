@@ -87,77 +87,20 @@ const USES: [[bool; 8]; 11] = [
     [YES, YES, YES, NO, NO, YES, NO, NO], // LEADER
 ];
 
-// The digits that sixteen characters are, 255 for what is none: the sixteen that hold 0 to 9, the sixteen that hold a to f, and any others.
-const TENS: [u8; 16] = [0, 1, 2, 3, 4, 5, 6, 7, 8, 9, 255, 255, 255, 255, 255, 255];
-
-const LETTERS: [u8; 16] = [
-    255,
-    10,
-    11,
-    12,
-    13,
-    14,
-    15,
-    255,
-    255,
-    255,
-    255,
-    255,
-    255,
-    255,
-    255,
-    255,
-];
-
-const OTHERS: [u8; 16] = [
-    255,
-    255,
-    255,
-    255,
-    255,
-    255,
-    255,
-    255,
-    255,
-    255,
-    255,
-    255,
-    255,
-    255,
-    255,
-    255,
-];
-
-// The digit that each character is.
-const VALUES: [[u8; 16]; 16] = [
-    OTHERS,
-    OTHERS,
-    OTHERS,
-    TENS,
-    OTHERS,
-    OTHERS,
-    LETTERS,
-    OTHERS,
-    OTHERS,
-    OTHERS,
-    OTHERS,
-    OTHERS,
-    OTHERS,
-    OTHERS,
-    OTHERS,
-    OTHERS,
-];
+// The digit that each character is; a full stop for what is none.
+const VALUES: [u8; 256] =
+    *b"................................................\x00\x01\x02\x03\x04\x05\x06\x07\x08\x09.......................................\x0a\x0b\x0c\x0d\x0e\x0f.........................................................................................................................................................";
 
 // The digit that a character is.
-fn digit_of(values: &[[u8; 16]; 16], c: u8) -> u8
+fn digit_of(values: &[u8; 256], c: u8) -> u8
     requires { ⌜ now values ≡ leaves.values ⌝ }
     ensures { λ r. ⌜ r ≡ leaves.digitIn c ⌝ }
 {
-    values[(c / 16) as usize][(c % 16) as usize]
+    values[c as usize]
 }
 
 // The number of `width` bytes that digits spell.
-fn number(values: &[[u8; 16]; 16], digits: &[u8], width: usize) -> Spelled
+fn number(values: &[u8; 256], digits: &[u8], width: usize) -> Spelled
     requires { ⌜ (now values ≡ leaves.values) × (width ≤ 8) × (length (now digits) ≡ 2 * width) ⌝ }
     ensures { λ r. ⌜ r ≡ leaves.numberIn (now (digits .entry)) ⌝ }
 {
@@ -183,7 +126,7 @@ fn number(values: &[[u8; 16]; 16], digits: &[u8], width: usize) -> Spelled
 }
 
 // The header's values; whether all characters are digits.
-fn read_header(values: &[[u8; 16]; 16], digits: &[u8], head: &mut [u64]) -> bool
+fn read_header(values: &[u8; 256], digits: &[u8], head: &mut [u64]) -> bool
     requires { ⌜ (now values ≡ leaves.values) × (length (now digits) ≡ 2 * hex.total layout.widths) × (length (now head) ≡ length layout.widths) ⌝ }
     ensures { λ r. ⌜ leaves.NumbersIn layout.widths (now (digits .entry)) r (now (head .exit)) ⌝ }
 {
@@ -204,7 +147,7 @@ fn read_header(values: &[[u8; 16]; 16], digits: &[u8], head: &mut [u64]) -> bool
 }
 
 // The commands; whether all characters are digits.
-fn read_words(values: &[[u8; 16]; 16], digits: &[u8], words: &mut [u64]) -> bool
+fn read_words(values: &[u8; 256], digits: &[u8], words: &mut [u64]) -> bool
     requires { ⌜ (now values ≡ leaves.values) × (length (now digits) ≡ 16 * length (now words)) ⌝ }
     ensures { λ r. ⌜ leaves.NumbersIn (format.commands (length (now (words .entry)))) (now (digits .entry)) r (now (words .exit)) ⌝ }
 {
@@ -359,7 +302,7 @@ fn heading_of(head: [u64; 8]) -> Heading
 }
 
 // The heading that a line's header spells, if it is proper and the kind is one of the kinds.
-fn read_head(values: &[[u8; 16]; 16], line: &[u8], kinds: u16) -> Heading
+fn read_head(values: &[u8; 256], line: &[u8], kinds: u16) -> Heading
     requires { ⌜ now values ≡ leaves.values ⌝ }
     ensures { λ h. ⌜ leaves.HeadIn (now (line .entry)) kinds h ⌝ }
 {
@@ -383,7 +326,7 @@ fn read_head(values: &[[u8; 16]; 16], line: &[u8], kinds: u16) -> Heading
 }
 
 // Whether the rest of a line whose header was read is right, and the commands into words that are 0.
-fn read_body(values: &[[u8; 16]; 16], line: &[u8], n: u8, m: u8, words: &mut [u64]) -> bool
+fn read_body(values: &[u8; 256], line: &[u8], n: u8, m: u8, words: &mut [u64]) -> bool
     requires { ⌜ (now values ≡ leaves.values) × leaves.Headed (now line) × leaves.Counted (now line) n m × (now words ≡ replicate 64 0) ⌝ }
     ensures { λ r. ⌜ leaves.BodyIn (now (line .entry)) r (now (words .exit)) ⌝ }
 {
