@@ -170,10 +170,10 @@ fn unused_zero(kind: usize, head: &[u64]) -> bool
     requires { ⌜ (kind < 11) × (length (now head) ≡ 8) ⌝ }
     ensures { λ r. ⌜ r ≡ kinds.zeroUnless (getD kinds.uses kind []) (now (head .entry)) ⌝ }
 {
-    let row = USES[kind];
+    let uses = &USES;
     let mut k: usize = 0;
     while k < 8 {
-        let fine = row[k] | (head[k] == 0);
+        let fine = uses[kind][k] | (head[k] == 0);
         if !fine {
             return false;
         }
