@@ -219,10 +219,11 @@ fn acceptor_in_parts<'p, 'a>(
         out,
     );
     let said = o.answer;
+    let bytes = o.sent;
     let after = o.marks;
     SiteOutcome {
         answer: said.number(),
-        sent: o.sent,
+        sent: bytes,
         marks: after,
     }
 }
@@ -300,11 +301,12 @@ fn leader_in_parts<'p, 'a>(
         out,
     );
     let heard = o.answer;
-    let after = o.marks;
+    let bytes_sent = o.sent;
+    let left = o.marks;
     LeaderOutcome {
         answer: heard.number(),
-        sent: o.sent,
-        marks: after,
+        sent: bytes_sent,
+        marks: left,
     }
 }
 
@@ -380,11 +382,12 @@ fn opening_in_parts<'p, 'a>(
         out,
     );
     let told = o.answer;
-    let left = o.marks;
+    let line_length = o.sent;
+    let opened = o.marks;
     LeaderOutcome {
         answer: told.number(),
-        sent: o.sent,
-        marks: left,
+        sent: line_length,
+        marks: opened,
     }
 }
 
