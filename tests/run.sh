@@ -13,6 +13,7 @@ rt staticlib speckleewe >/dev/null
 library=target/staticlib/libspeckleewe.a
 tests/layout/run.sh
 tests/symbols.sh $library
+python3 tests/stack.py $library
 tests/example.sh $library
 tests/fuzz/run.sh $library
 tests/model/run.sh $library --self

@@ -52,7 +52,7 @@ def main():
     failed = False
     for name in sorted(n for n in frame if n.startswith('speckleewe_')):
         used = deepest(name, frame, calls)
-        said = re.search(r'^\| `%s` \|.*\| ([\d,]+) \|$' % name, manual, flags=re.M)
+        said = re.search(r'^\| `%s` \| ([\d,]+) \|$' % name, manual, flags=re.M)
         print(f'stack: {name} {used} bytes')
         if not said:
             failed = not name.endswith(('_fresh', '_longest_line')) or failed

@@ -1,8 +1,10 @@
--- What the walks of the entries over a lent record share. An entry copies the lent record, calls a step by value on it, stores the record of the
--- step's outcome, and answers the outcome's two numbers. There is one walk for each shape: `WithBuffer` has three arguments and an output buffer,
--- `WithoutBuffer` two and no buffer. A walk is of any record, any arguments and any step.
+-- What the walks of the entries over a lent record share. There are two ways.
+-- The small view-change record is copied: `WithBuffer` is the walk of an entry that copies the lent record, calls a step by value on it, stores the
+-- record of the step's outcome, and answers the outcome's two numbers. It is of any record, any three arguments and any step.
+-- The parts of a large record are lent on: `Parts` has how a record is taken apart, its parts lent for the time of a call and the record put together
+-- again. `LearnerInPlace`, `LeaderInPlace` and `AcceptorInPlace` are the walks; the leader's is of any third argument, so it serves step and opening.
 --
--- How an entry is added:
+-- How an entry over a copied record is added:
 -- 1. In `specs/`: a relation of the record before, the arguments, the buffer before, the step's outcome and the buffer after; and the outcome that
 --    a reply and the record after make. Examples: `changesView` and `viewsLeft`.
 -- 2. The step's outcome, a private struct: the answer (`u8`), the length sent (`usize`) and the record, in this order.
@@ -11,6 +13,9 @@
 -- 4. The entry: the same parameters with the record by `&mut`, the relation at the record's entry and exit, and the four lines of the other entries.
 -- 5. Its proof: that of `speckleewe_view_change`, with the modules of this record, outcome and step, the arguments and the relation.
 -- A further argument is a further shape: in the walk, each place in the context that lies behind the arguments' locals moves by two.
+--
+-- How to read a walk in place: each comment in brackets is the context at that place, from its front. `lending` takes a part's cell and leaves the
+-- reference and the lender's right; `returned` takes the right, the last value and that the lifetime is over, and leaves the cell.
 use mathlib.Core.Path.{_≡_}
 use Prim.Native.Nat.{ℕ}
 use mathlib.Core.List.{[], _∷_, List}
