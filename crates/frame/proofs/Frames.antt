@@ -13,9 +13,9 @@ use Rattle.frame.specs.declared.Frame.{Frame}
 use Rattle.frame.specs.declared.Heading.{Heading}
 use Rattle.frame.specs.Hex.{digitsOf, spell, allFit, total}
 use Rattle.frame.specs.HexLaws.{length-digits}
-use Rattle.frame.specs.Layout.{commandWidth, capacity, widths, values, count, first, second, lineLength}
+use Rattle.frame.specs.Layout.{commandWidth, widths, values, count, first, second, lineLength}
 use Rattle.frame.specs.Kinds.{unusedZero}
-use Rattle.frame.specs.Format.{commands, lineFeed, lineOf, proper, allZero, fits, writable, padded, hasRoom, writtenLength, written, frameFrom, listed, lengthFrom, writtenFrom}
+use Rattle.frame.specs.Format.{commands, lineOf, proper, allZero, fits, writable, hasRoom, writtenLength, written, frameFrom, listed, lengthFrom, writtenFrom}
 use Rattle.frame.specs.FormatLaws.{proper-count}
 use Rattle.frame.specs.FromLaws.{listed-first, listed-second, listed-count, from-writable, from-line, from-listed, headOf, lists-are, from-parts}
 use Rattle.frame.specs.Leaves.{properHeader}

@@ -3,22 +3,20 @@ use Prim.Native.Nat.{ℕ, zero, suc, _+_, _-_, _*_, _^_, _≤_, _<_}
 use native.Mathlib.Nat.{le-refl, sub-zero, zero-sub, suc-sub-suc}
 use native.Mathlib.Omega.{arith}
 use mathlib.Core.Path.{_≡_, refl, sym, ap, ap₂, subst, _∙_}
-use mathlib.Core.Bool.{Bool, true, false, cond, _&&_, and-false, and-true, true≢false}
+use mathlib.Core.Bool.{Bool, true, false, cond, _&&_, and-false, true≢false}
 use mathlib.Core.List.{List, [], _∷_, _++_}
 use lib.Dec.{leb, ltb, eqb, lit<}
 use lib.ListN.{length, getD, take, drop, replicate, length-drop, length-replicate}
-use lib.Seq.{take-add, length-take-le, drop-nil}
+use lib.Seq.{take-add, length-take-le}
 use borrow.Author.Tests.{ltb-true, leb-true, eq-eqb, ne-eqb}
 use Rattle.roster.specs.Mask.{bit}
-use Rattle.frame.specs.declared.Frame.{Frame}
 use Rattle.frame.specs.declared.Heading.{Heading}
-use Rattle.frame.specs.declared.Reading.{Reading}
 use Rattle.frame.specs.Hex.{allDigits, numbers, allFit, total}
 use Rattle.frame.specs.HexLaws.{all-append, numbers-fit, numbers-take, length-numbers}
-use Rattle.frame.specs.Layout.{commandWidth, limit, capacity, widths, withValues, count, lineLength}
+use Rattle.frame.specs.Layout.{commandWidth, limit, widths, count, lineLength}
 use Rattle.frame.specs.Kinds.{uses, isKind, zeroUnless, unusedZero}
-use Rattle.frame.specs.Format.{commands, lineFeed, proper, padded, framed, frameOf, isLine, nothing, readingOf, readingWith}
-use Rattle.frame.specs.FormatLaws.{total-commands, fit-length}
+use Rattle.frame.specs.Format.{commands, lineFeed, proper, framed, frameOf, isLine, nothing, readingOf, readingWith}
+use Rattle.frame.specs.FormatLaws.{total-commands}
 use Rattle.frame.specs.Leaves.{NumbersIn, properHeader, Fitting, Headed, Counted, Found, HeadIn, headingOf, noHeading, bodyGood, bodyReading, BodyIn}
 use Rattle.frame.specs.Tests.{and-left, and-right}
 

@@ -1,13 +1,13 @@
 -- Runs of numbers with their widths, read and written one after the other: what the loops keep, one turn, a stop and the end.
-use Prim.Native.Nat.{ℕ, zero, suc, _+_, _-_, _*_, _^_, _≤_, _<_, zero-le}
+use Prim.Native.Nat.{ℕ, _+_, _-_, _*_, _≤_, _<_, zero-le}
 use native.Mathlib.Numerals.{add-one}
 use native.Mathlib.Omega.{arith}
 use mathlib.Core.Path.{_≡_, refl, sym, ap, ap₂, subst, _∙_}
 use mathlib.Core.Bool.{Bool, true, false, cond, _&&_, true≢false}
 use mathlib.Core.List.{List, [], _∷_, _++_, append-nil, append-assoc}
 use lib.Dec.{leb}
-use lib.ListN.{length, getD, take, drop, set, replicate, length-set, length-replicate, getD-replicate, length-append, length-drop, drop-of-length-le, take-append-drop}
-use lib.Seq.{take-suc-set, take-suc, take-all, take-at, drop-drop, length-take-le, append-snoc}
+use lib.ListN.{length, getD, take, drop, set, length-set, length-replicate, getD-replicate, length-append, length-drop, drop-of-length-le, take-append-drop}
+use lib.Seq.{take-suc-set, take-all, take-at, drop-drop, length-take-le, append-snoc}
 use borrow.Author.Tests.{leb-true}
 use Rattle.frame.specs.declared.Spelled.{Spelled}
 use Rattle.frame.specs.Hex.{allDigits, number, digitsOf, spell, numbers, total}

@@ -1,23 +1,22 @@
 -- One turn of each loop, and what it leaves at its end.
 use Prim.Native.Nat.{ℕ, zero, suc, _+_, _-_, _*_, _/_, _%_, _^_, _≤_, _<_, zero-le}
-use native.Mathlib.Nat.{add-zero, pow-suc, pow-le-pow-right, sub-zero, zero-lt-suc, le-refl}
+use native.Mathlib.Nat.{add-zero, pow-suc, pow-le-pow-right, zero-lt-suc}
 use native.Mathlib.Numerals.{add-one}
 use native.Mathlib.Omega.{arith}
-use mathlib.Core.Path.{_≡_, refl, sym, ap, ap₂, subst, _∙_}
-use mathlib.Core.Bool.{Bool, true, false, cond, _&&_, _||_, true≢false, false≢true, and-false, and-assoc}
+use mathlib.Core.Path.{_≡_, refl, sym, ap, ap₂, _∙_}
+use mathlib.Core.Bool.{Bool, true, false, cond, _&&_, _||_, and-assoc}
 use mathlib.Core.List.{List, [], _∷_, _++_, append-nil, append-assoc}
 use lib.Dec.{leb, ltb, eqb}
-use lib.Pow.{pow-mono}
-use lib.ListN.{length, getD, take, drop, set, length-set, length-append, length-drop, drop-of-length-le}
-use lib.Seq.{drop-cons, take-suc, take-suc-set, drop-set-add, drop-set-lt, take-set-le, set-split, take-all}
+use lib.ListN.{length, getD, drop, set, length-set, drop-of-length-le}
+use lib.Seq.{drop-cons, drop-set-add}
 use borrow.Author.Tests.{eqb-true, ltb-true, lt-ltb, ne-eqb, eq-eqb}
 use Rattle.frame.specs.declared.Spelled.{Spelled}
-use Rattle.frame.specs.Hex.{digit, isDigit, valueOf, allDigits, byteOf, numberFrom, number, digitsOf, spell, numbers, total}
-use Rattle.frame.specs.HexLaws.{Byte, byte-of, value-lt}
+use Rattle.frame.specs.Hex.{digit, isDigit, valueOf, allDigits, byteOf, numberFrom, number, digitsOf}
+use Rattle.frame.specs.HexLaws.{value-lt}
 use Rattle.frame.specs.Kinds.{uses, isKind, zeroUnless}
 use Rattle.frame.specs.Format.{allZero}
 use Rattle.frame.specs.Leaves.{fullStop, digitIn, numberIn, properHeader}
-use Rattle.frame.specs.Tests.{and-left, and-right, and-both, everyBelow, every-at}
+use Rattle.frame.specs.Tests.{and-left, and-right, everyBelow, every-at}
 
 -- what is left of a list at i is its element there and what is left after it
 pub drop-next : (l : List ℕ) (i : ℕ) → i < length l → drop i l ≡ getD l i 0 ∷ drop (i + 1) l

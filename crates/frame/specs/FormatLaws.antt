@@ -4,7 +4,7 @@ use native.Mathlib.Nat.{zero-add, suc-add, le-refl}
 use native.Mathlib.Omega.{arith}
 use mathlib.Core.Path.{_≡_, refl, sym, ap, ap₂, subst, _∙_}
 use mathlib.Core.Bool.{Bool, true, false, cond, _&&_, true≢false}
-use mathlib.Core.List.{List, [], _∷_, _++_, append-nil, append-assoc}
+use mathlib.Core.List.{List, [], _∷_, _++_, append-assoc}
 use lib.Dec.{leb, ltb, eqb}
 use lib.ListN.{length, getD, take, drop, replicate, length-append, length-replicate, length-drop, take-append-drop, drop-of-length-le}
 use lib.Seq.{take-at, drop-at, getD-at, take-add, split-at, length-take-le}
@@ -12,7 +12,7 @@ use borrow.Author.Tests.{eqb-true, eq-eqb, leb-true, le-leb}
 use Rattle.frame.specs.declared.Frame.{Frame}
 use Rattle.frame.specs.declared.Reading.{Reading}
 use Rattle.roster.specs.Mask.{bit}
-use Rattle.frame.specs.Hex.{isDigit, allDigits, digitsOf, spell, numbers, allFit, total}
+use Rattle.frame.specs.Hex.{allDigits, digitsOf, spell, numbers, allFit, total}
 use Rattle.frame.specs.HexLaws.{all-append, number-digits, length-spell, all-spell, numbers-spell, numbers-fit, spell-numbers, length-numbers, numbers-take}
 use Rattle.frame.specs.Layout.{commandWidth, limit, capacity, widths, values, withValues, count, lineLength, longest}
 use Rattle.frame.specs.Kinds.{isKind, unusedZero}

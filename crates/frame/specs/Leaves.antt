@@ -1,5 +1,5 @@
 -- What the functions inside `read` and `write` give.
-use Prim.Native.Nat.{ℕ, zero, suc, _+_, _-_, _*_, _/_, _%_, _^_, _≤_, _<_}
+use Prim.Native.Nat.{ℕ, zero, suc, _-_, _*_, _^_, _≤_, _<_}
 use mathlib.Core.Bool.{Bool, true, false, cond, _&&_}
 use mathlib.Core.List.{List, [], _∷_}
 use mathlib.Core.Path.{_≡_}
@@ -10,7 +10,7 @@ use Rattle.frame.specs.declared.Heading.{Heading}
 use Rattle.frame.specs.declared.Reading.{Reading}
 use Rattle.roster.specs.Mask.{bit}
 use Rattle.frame.specs.Hex.{digit, isDigit, valueOf, allDigits, number, numbers, total}
-use Rattle.frame.specs.Layout.{limit, widths, withValues, count, lineLength}
+use Rattle.frame.specs.Layout.{limit, widths, count, lineLength}
 use Rattle.frame.specs.Kinds.{uses, isKind, zeroUnless}
 use Rattle.frame.specs.Format.{frameOf, lineFeed, nothing, readingOf}
 

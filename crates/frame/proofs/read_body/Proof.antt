@@ -1,7 +1,6 @@
 -- `frame::read_body` meets its contract: its tests are those that the contract names, in the same order, and the words are the commands that the line spells, and then 0.
-use Rattle.frame.proofs.Lines.{words-enough, words-room, digits-room, head-n, head-m, wrong-length, no-feed, no-body, body-in}
+use Rattle.frame.proofs.Lines.{words-enough, words-room, digits-room, wrong-length, no-feed, no-body, body-in}
 use mathlib.Core.Path.{sym}
-use native.Mathlib.Omega.{arith}
 use borrow.Author.Needs.{needs}
 use Rattle.frame.proofs.read_body.Statement.{statement}
 use Rattle.frame.proofs.read_body.Tie as tie

@@ -4,7 +4,6 @@ use native.Mathlib.Omega.{arith}
 use mathlib.Core.Path.{refl}
 use borrow.Author.Needs.{needs}
 use borrow.Author.Tests.{not-true, not-false}
-use lib.ListN.{length-set}
 use Rattle.frame.specs.Layout.{widths}
 use Rattle.frame.proofs.Runs.{Gathering, width-most, end-within, part-size, gathering-start, gathering-stop, gathering-turn, gathering-end}
 use Rattle.frame.proofs.read_header.Statement.{statement}

@@ -2,10 +2,10 @@
 use Prim.Native.Nat.{_*_, _+_, _-_}
 use native.Mathlib.Omega.{arith}
 use native.Mathlib.Nat.{le-refl}
-use mathlib.Core.Path.{refl, sym, ap, _∙_}
+use mathlib.Core.Path.{sym, ap, _∙_}
 use borrow.Author.Needs.{needs}
 use borrow.Author.Tests.{not-true, not-false}
-use lib.ListN.{length, length-set}
+use lib.ListN.{length}
 use Rattle.frame.specs.Format.{commands}
 use Rattle.frame.proofs.Runs.{Gathering, commands-length, commands-at, commands-total, command-end, part-size, gathering-start, gathering-stop, gathering-turn, gathering-end}
 use Rattle.frame.proofs.read_words.Statement.{statement}

@@ -1,7 +1,7 @@
 -- `frame::write_words` meets its contract: the loop keeps that what is written, and then the digits of the commands from k on, are the goal.
 use Prim.Native.Nat.{_*_, _+_, _-_}
 use native.Mathlib.Omega.{arith}
-use mathlib.Core.Path.{refl, sym, ap, _∙_}
+use mathlib.Core.Path.{sym, ap, _∙_}
 use borrow.Author.Needs.{needs}
 use lib.ListN.{length, getD}
 use Rattle.frame.specs.Hex.{digitsOf}
