@@ -18,13 +18,14 @@ use Rattle.table.specs.Table.{row, storedAt, storedIn}
 use Rattle.table.specs.TableLaws.{Sized, length-row, stored-in}
 use Rattle.merge.specs.declared.Merged.{Merged}
 use Rattle.merge.specs.Merged.{merged}
+use Rattle.refusal.specs.declared.Refusal.{Refusal}
 use Rattle.refusal.specs.declared.Refusal.the-variants.{Split, Full, Contradiction}
 use Rattle.refusal.specs.declared.Answer.the-variants.{Accepted}
 use Rattle.refusal.specs.Rules.{judged}
 use Rattle.learner.specs.declared.State.{State}
 use Rattle.learner.specs.declared.Verdict.{Verdict}
 use Rattle.learner.specs.Learner.{contradicts}
-use Rattle.learner.specs.Verdict.{backs, stands, standing, enough, none, against, merging, favour, mergeChecks, onMerge, onEntry, settled}
+use Rattle.learner.specs.Verdict.{historyOf, refusing, ruled, backs, stands, standing, enough, none, against, merging, favour, mergeChecks, onMerge, onEntry, settled}
 
 -- what the code's test of a row's support says
 pub backs-is : (words counts h : List ℕ) (i : ℕ) (entry : List ℕ) (b : Bool) → entry ≡ row words counts i → b ≡ extendsWithin 64 entry h → backs words counts h i ≡ b
@@ -35,6 +36,10 @@ backs-is words counts h i entry b e f =
 -- and its test of a history against an entry
 pub newer-is : (h entry g : List ℕ) (b : Bool) → length h ≤ 64 → entry ≡ g → b ≡ extendsWithin 64 h entry → extends h g ≡ b
 newer-is h entry g b p e f = sym (extends-within 64 h g p) ∙ ap (extendsWithin 64 h) (sym e) ∙ sym f
+
+-- a verdict that refuses, whatever the words
+pub refused : {v : Verdict} {e : Refusal} (next : List ℕ) → v ≡ refusing e → ruled v next ≡ against e
+refused next p = ap (λ (x : Verdict). ruled x next) p
 
 -- ---- a vote that is merged: m is what merging answered
 
@@ -91,7 +96,11 @@ stored-is {t} {u} {i} {j} {g} {h} z e f k =
     e ∙ stored-in (u .words) (u .counts) i g (omega arith) (omega arith) ∙ ap (λ (x : ℕ). storedAt u x g) f ∙ ap (storedAt u j) k
 
 -- the outcome of a verdict v, t and l being the entries and what is learned after it
-pub settled-parts : (s : State) (site : ℕ) (h : List ℕ) (v : Verdict) (t : Table) (l : History)
-    → t ≡ cond (v .stores) (storedAt (s .entries) site h) (s .entries) → l ≡ cond (v .learns) (v .learned) (s .learned)
-    → record { answer = v .answer; supporters = v .supporters; state = record { entries = t; learned = l } } ≡ settled s site h v
-settled-parts s site h v t l e f = rw (e, f)
+pub settled-parts : (s : State) (site : ℕ) (h : List ℕ) (v : Verdict) (next : List ℕ) (t : Table) (l : History)
+    → t ≡ cond (v .stores) (storedAt (s .entries) site h) (s .entries) → l ≡ cond (v .learns) (historyOf (v .count) next) (s .learned)
+    → record { answer = v .answer; supporters = v .supporters; state = record { entries = t; learned = l } } ≡ settled s site h (ruled v next)
+settled-parts s site h v next t l e f = rw (e, f) (ap (λ (x : History). record { answer = v .answer; supporters = v .supporters; state = record { entries = cond (v .stores) (storedAt (s .entries) site h) (s .entries); learned = x } }) (go (v .learns)))
+  where
+    go : (b : Bool) → cond b (historyOf (v .count) next) (s .learned) ≡ cond b (cond b (historyOf (v .count) next) none) (s .learned)
+    go true = refl
+    go false = refl

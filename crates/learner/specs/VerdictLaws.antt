@@ -31,7 +31,6 @@ use Rattle.frame.specs.declared.Frame.{Frame}
 use Rattle.frame.specs.declared.Reading.{Reading}
 use Rattle.frame.specs.Format.{readingOf, malformed}
 use Rattle.learner.specs.declared.State.{State}
-use Rattle.learner.specs.declared.Verdict.{Verdict}
 use Rattle.learner.specs.Learner.{config, taken, form, vote, arrived, sender, contradicts, withVote, supporters, claimed, splits, overflows, after, refuse, accepted, step}
 use Rattle.learner.specs.StepLaws.{config-sound, Sound, vote-count, vote-enters, vote-stored, vote-stays}
 use Rattle.learner.specs.Verdict.{backs, stands, standing, enough, none, against, favour, favoured, mergeChecks, checks, onReading, settled}

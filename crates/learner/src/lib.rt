@@ -35,28 +35,26 @@ pub struct Answered {
     pub supporters: u8,
 }
 
-// What is decided of a vote: the answer, the supporters, whether the vote is stored, and what is learned with it, if anything is.
+// What is decided of a vote: the answer, the supporters, whether the vote is stored, and whether something is learned with it, and how many commands
+// that has; they are left in words that the caller lends.
 struct Verdict {
     answer: Answer,
     supporters: u8,
     stores: bool,
     learns: bool,
-    learned: History,
+    count: u8,
 }
 
 // The verdict that refuses.
 fn against(e: Refusal) -> Verdict
-    ensures { λ v. ⌜ v ≡ verdict.against e ⌝ }
+    ensures { λ v. ⌜ v ≡ verdict.refusing e ⌝ }
 {
     Verdict {
         answer: Answer::Refused(e),
         supporters: 0,
         stores: false,
         learns: false,
-        learned: History {
-            count: 0,
-            words: [0u64; 32],
-        },
+        count: 0,
     }
 }
 
@@ -107,9 +105,9 @@ fn supporters<'a>(words: &'a [u64], counts: &'a [u8], n: u8, site: u8, h: &[u64]
     count
 }
 
-// The verdict on a vote that the learner merges with what it learned, k being the supporters.
-fn learn(learned: &[u64], h: &[u64], stores: bool, k: u8) -> Verdict
-    ensures { λ v. ⌜ v ≡ verdict.merging (now (learned .entry)) (now (h .entry)) stores k ⌝ }
+// The verdict on a vote that the learner merges with what it learned, k being the supporters. The merge is left in `next`.
+fn learn(learned: &[u64], h: &[u64], stores: bool, k: u8, next: &mut [u64; 32]) -> Verdict
+    ensures { λ v. ⌜ verdict.ruled v (now (next .exit)) ≡ verdict.merging (now (learned .entry)) (now (h .entry)) stores k ⌝ }
 {
     let m = merge::merge(learned, h);
     let split = m.split;
@@ -121,12 +119,14 @@ fn learn(learned: &[u64], h: &[u64], stores: bool, k: u8) -> Verdict
         return against(Refusal::Full);
     }
     let history = m.history;
+    let words = history.words;
+    *next = words;
     Verdict {
         answer: Answer::Accepted,
         supporters: k,
         stores,
         learns: true,
-        learned: history,
+        count: history.count,
     }
 }
 
@@ -139,23 +139,21 @@ fn conclude<'a>(
     site: u8,
     h: &[u64],
     stores: bool,
+    next: &mut [u64; 32],
 ) -> Verdict
-    ensures { λ v. ⌜ v ≡ verdict.onMerge r (now (words .entry)) (now (counts .entry)) (now (learned .entry)) site (now (h .entry)) stores ⌝ }
+    ensures { λ v. ⌜ verdict.ruled v (now (next .exit)) ≡ verdict.onMerge r (now (words .entry)) (now (counts .entry)) (now (learned .entry)) site (now (h .entry)) stores ⌝ }
 {
     let k = supporters(words, counts, r.n, site, h);
     let enough = r.quorum() <= k as u32;
     if enough {
-        return learn(learned, h, stores, k);
+        return learn(learned, h, stores, k, next);
     }
     Verdict {
         answer: Answer::Accepted,
         supporters: k,
         stores,
         learns: false,
-        learned: History {
-            count: 0,
-            words: [0u64; 32],
-        },
+        count: 0,
     }
 }
 
@@ -167,18 +165,19 @@ fn enter<'a>(
     learned: &[u64],
     site: u8,
     h: &[u64],
+    next: &mut [u64; 32],
 ) -> Verdict
     requires { ⌜ length (now h) ≤ 64 ⌝ }
-    ensures { λ v. ⌜ v ≡ verdict.onEntry r (now (words .entry)) (now (counts .entry)) (now (learned .entry)) site (now (h .entry)) ⌝ }
+    ensures { λ v. ⌜ verdict.ruled v (now (next .exit)) ≡ verdict.onEntry r (now (words .entry)) (now (counts .entry)) (now (learned .entry)) site (now (h .entry)) ⌝ }
 {
     let entry = table::row(words, counts, site as usize);
     let newer = history::extends(h, entry);
     if newer {
-        return conclude(r, words, counts, learned, site, h, true);
+        return conclude(r, words, counts, learned, site, h, true, next);
     }
     let older = history::extends(entry, h);
     if older {
-        return conclude(r, words, counts, learned, site, h, false);
+        return conclude(r, words, counts, learned, site, h, false, next);
     }
     against(Refusal::Contradiction)
 }
@@ -191,9 +190,10 @@ fn inspect<'a>(
     learned: &[u64],
     site: u8,
     h: &[u64],
+    next: &mut [u64; 32],
 ) -> Verdict
     requires { ⌜ length (now h) ≤ 64 ⌝ }
-    ensures { λ v. ⌜ v ≡ verdict.onHistory r (now (words .entry)) (now (counts .entry)) (now (learned .entry)) site (now (h .entry)) ⌝ }
+    ensures { λ v. ⌜ verdict.ruled v (now (next .exit)) ≡ verdict.onHistory r (now (words .entry)) (now (counts .entry)) (now (learned .entry)) site (now (h .entry)) ⌝ }
 {
     let valid = command::all_valid(h);
     if !valid {
@@ -203,7 +203,7 @@ fn inspect<'a>(
     if improper {
         return against(Refusal::History);
     }
-    enter(r, words, counts, learned, site, h)
+    enter(r, words, counts, learned, site, h, next)
 }
 
 // The verdict on a vote: sender, ballot and certificate, and then the history, the first words of `all`.
@@ -214,8 +214,9 @@ fn vote<'a>(
     learned: &[u64],
     v: Heading,
     all: &[u64; 64],
+    next: &mut [u64; 32],
 ) -> Verdict
-    ensures { λ d. ⌜ d ≡ verdict.onVote r (now (words .entry)) (now (counts .entry)) (now (learned .entry)) (frameWith v (now (all .entry))) ⌝ }
+    ensures { λ d. ⌜ verdict.ruled d (now (next .exit)) ≡ verdict.onVote r (now (words .entry)) (now (counts .entry)) (now (learned .entry)) (frameWith v (now (all .entry))) ⌝ }
 {
     let unknown = r.n <= v.sender;
     if unknown {
@@ -242,6 +243,7 @@ fn vote<'a>(
         learned,
         v.sender,
         history::first(carried, v.n as usize),
+        next,
     )
 }
 
@@ -257,8 +259,9 @@ fn judge<'a>(
     count: u8,
     head: Heading,
     all: &[u64; 64],
+    next: &mut [u64; 32],
 ) -> Verdict
-    ensures { λ v. ⌜ v ≡ verdict.onReading r (now (words .entry)) (now (counts .entry)) (now (past .entry)) count (readingWith head (now (all .entry))) ⌝ }
+    ensures { λ v. ⌜ verdict.ruled v (now (next .exit)) ≡ verdict.onReading r (now (words .entry)) (now (counts .entry)) (now (past .entry)) count (readingWith head (now (all .entry))) ⌝ }
 {
     let unfit = config(r, words, counts, past, count);
     if unfit {
@@ -275,17 +278,17 @@ fn judge<'a>(
         history::first(past, count as usize),
         head,
         all,
+        next,
     )
 }
 
-// What is learned after a verdict: what it brings, if anything.
-fn keep(learns: bool, h: History, count: &mut u8, learned: &mut [u64; 32])
-    ensures { λ r. ⌜ verdict.historyOf (now (count .exit)) (now (learned .exit)) ≡ cond learns h (verdict.historyOf (now (count .entry)) (now (learned .entry))) ⌝ }
+// What is learned after a verdict: the first n words of `next`, if it learns.
+fn keep(learns: bool, n: u8, next: [u64; 32], count: &mut u8, learned: &mut [u64; 32])
+    ensures { λ r. ⌜ verdict.historyOf (now (count .exit)) (now (learned .exit)) ≡ cond learns (verdict.historyOf n next) (verdict.historyOf (now (count .entry)) (now (learned .entry))) ⌝ }
 {
     if learns {
-        let kept = h.words;
-        *count = h.count;
-        *learned = kept;
+        *count = n;
+        *learned = next;
     }
 }
 
@@ -317,8 +320,9 @@ pub fn step_in_place(
     let entries: &[u64] = words;
     let lengths: &[u8] = counts;
     let past: &[u64] = learned;
-    let v = judge(r, entries, lengths, past, *count, head, &carried);
-    keep(v.learns, v.learned, count, learned);
+    let mut next = [0u64; 32];
+    let v = judge(r, entries, lengths, past, *count, head, &carried, &mut next);
+    keep(v.learns, v.count, next, count, learned);
     store(v.stores, counts, words, head, &carried);
     let answer = v.answer;
     Answered {

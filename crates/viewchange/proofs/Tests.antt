@@ -171,13 +171,17 @@ pub bare-notice : (kind own : ℕ) (view : View) (mask : ℕ) → message kind o
 unfolding notice padded
 bare-notice kind own view mask = refl
 
--- ---- what is handed over: d is the decision, m the frame made of it, k the length of its line and l the buffer
+-- ---- what is handed over: d is the decision
 
 module _ (own : ℕ) (out : List ℕ) (d : Decision) where
-  pub handed : (m : Frame) → m ≡ notice (d .kind) own (d .view .0) (d .mask)
-      → (k : ℕ) (l : List ℕ) → (k ≡ lengthSent (sendsIf (d .sends) m) out) × (l ≡ buffer (sendsIf (d .sends) m) out)
-      → (record { answer = d .answer; sent = k; views = d .views } ≡ outcome (replied own d) out) × (l ≡ buffer (replied own d .sending) out)
-  handed m f k l p = (rw (p .0, f), p .1 ∙ rw f)
+  -- nothing, or the frame m, of which k is the length of its line and l the buffer
+  pub nothing-sent : d .sends ≡ false → (0 ≡ lengthSent (replied own d .sending) out) × (out ≡ buffer (replied own d .sending) out)
+  nothing-sent p = (rw p, rw p)
+
+  pub frame-sent : d .sends ≡ true → (m : Frame) → m ≡ notice (d .kind) own (d .view .0) (d .mask)
+      → (k : ℕ) (l : List ℕ) → (k ≡ lengthSent (sendsIf true m) out) × (l ≡ buffer (sendsIf true m) out)
+      → (k ≡ lengthSent (replied own d .sending) out) × (l ≡ buffer (replied own d .sending) out)
+  frame-sent e m f k l p = (p .0 ∙ rw (e, f), p .1 ∙ rw (e, f))
 
   -- o is the reply that the decision stands for
   pub answered : (o : Reply ViewRecord) → replied own d ≡ o → (x : Outcome) (l : List ℕ)

@@ -201,14 +201,18 @@ fn decide(r: Roster, own: u8, room: usize, v: ViewRecord, line: &[u8]) -> Decisi
     change(r, own, v, m.sender, view, m.mask)
 }
 
-// Hands over the frame that a decision of `own` names, and answers.
-fn answer(own: u8, d: Decision, out: &mut [u8]) -> Outcome
-    ensures { λ o. ⌜ (o ≡ spec.outcome (decision.replied own d) (now (out .entry))) × (now (out .exit) ≡ reply.buffer (decision.replied own d .sending) (now (out .entry))) ⌝ }
+// Sends the frame that a decision of `own` names, if it names one, and answers the length of its line.
+fn notify(own: u8, d: Decision, out: &mut [u8]) -> usize
+    ensures { λ k. ⌜ (k ≡ reply.lengthSent (decision.replied own d .sending) (now (out .entry))) × (now (out .exit) ≡ reply.buffer (decision.replied own d .sending) (now (out .entry))) ⌝ }
 {
+    let sends = d.sends;
+    if !sends {
+        return 0;
+    }
     let view = d.view;
     let none: [u64; 0] = [];
-    let sent = site::send(
-        d.sends,
+    site::send(
+        true,
         d.kind,
         own,
         view,
@@ -218,7 +222,14 @@ fn answer(own: u8, d: Decision, out: &mut [u8]) -> Outcome
         &none,
         &none,
         out,
-    );
+    )
+}
+
+// Hands over the frame that a decision of `own` names, and answers.
+fn answer(own: u8, d: Decision, out: &mut [u8]) -> Outcome
+    ensures { λ o. ⌜ (o ≡ spec.outcome (decision.replied own d) (now (out .entry))) × (now (out .exit) ≡ reply.buffer (decision.replied own d .sending) (now (out .entry))) ⌝ }
+{
+    let sent = notify(own, d, out);
     let given = d.answer;
     let views = d.views;
     Outcome {

@@ -22,10 +22,10 @@ learn-requires c κs = search needs
 returns : tie.Need-returns
 unfolding standing
 returns c =
-    let given = c .before .before .before .before .before .before .before .before .args in
-    let supporters-call = c .before .before .before .supporters in
-    let quorum-call = c .before .before .quorum in
-    c .learn .ensures ∙ merge-enough _ _ _ _ (given .site) _ _ (supporters-call .result) (quorum-call .result) (supporters-call .ensures) (quorum-call .ensures) (c .before .if1 .taken)
+    let given = c .before .before .before .before .before .before .before .before .before .args in
+    let supporters-call = c .before .before .before .before .supporters in
+    let quorum-call = c .before .before .before .quorum in
+    c .learn .ensures ∙ merge-enough _ _ _ _ (given .site) _ _ (supporters-call .result) (quorum-call .result) (supporters-call .ensures) (quorum-call .ensures) (c .before .before .if1 .taken)
 
 returns-2 : tie.Need-returns-2
 unfolding standing

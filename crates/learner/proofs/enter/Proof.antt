@@ -3,7 +3,7 @@
 use mathlib.Core.Path.{_∙_}
 use denote.Ref.{now}
 use borrow.Author.Needs.{needs}
-use Rattle.learner.proofs.Tests.{newer-is, backs-is, entry-newer, entry-older, entry-neither}
+use Rattle.learner.proofs.Tests.{refused, newer-is, backs-is, entry-newer, entry-older, entry-neither}
 use Rattle.learner.proofs.enter.Statement.{statement}
 use Rattle.learner.proofs.enter.Tie as tie
 
@@ -18,11 +18,11 @@ conclude-requires c κs = search needs
 
 returns : tie.Need-returns
 returns c =
-    let given = c .before .before .before .before .before .before .before .before .args in
-    let row-call = c .before .before .before .row in
-    let extends-call = c .before .before .extends in
-    let pre-call = c .before .before .before .before .before .before .before .before .pre in
-    c .conclude .ensures ∙ entry-newer _ _ _ _ (given .site) _ (newer-is _ (now (row-call .result)) _ (extends-call .result) (pre-call) (row-call .ensures) (extends-call .ensures) ∙ c .before .if1 .taken)
+    let given = c .before .before .before .before .before .before .before .before .before .args in
+    let row-call = c .before .before .before .before .row in
+    let extends-call = c .before .before .before .extends in
+    let pre-call = c .before .before .before .before .before .before .before .before .before .pre in
+    c .conclude .ensures ∙ entry-newer _ _ _ _ (given .site) _ (newer-is _ (now (row-call .result)) _ (extends-call .result) (pre-call) (row-call .ensures) (extends-call .ensures) ∙ c .before .before .if1 .taken)
 
 extends-requires-2 : tie.Need-extends-requires-2
 extends-requires-2 c κs = search needs
@@ -32,13 +32,13 @@ conclude-requires-2 c κs = search needs
 
 returns-2 : tie.Need-returns-2
 returns-2 c =
-    let given = c .before .before .before .before .before .before .before .before .before .before .args in
-    let row-call = c .before .before .before .before .before .row in
-    let extends-call = c .before .before .before .before .extends in
-    let pre-call = c .before .before .before .before .before .before .before .before .before .before .pre in
-    let if1 = c .before .before .before .if1 in
-    let extends2-call = c .before .before .extends2 in
-    c .conclude2 .ensures ∙ entry-older _ _ _ _ (given .site) _ (newer-is _ (now (row-call .result)) _ (extends-call .result) (pre-call) (row-call .ensures) (extends-call .ensures) ∙ if1 .left) (backs-is _ _ _ _ (now (row-call .result)) (extends2-call .result) (row-call .ensures) (extends2-call .ensures) ∙ c .before .if2 .taken)
+    let given = c .before .before .before .before .before .before .before .before .before .before .before .args in
+    let row-call = c .before .before .before .before .before .before .row in
+    let extends-call = c .before .before .before .before .before .extends in
+    let pre-call = c .before .before .before .before .before .before .before .before .before .before .before .pre in
+    let if1 = c .before .before .before .before .if1 in
+    let extends2-call = c .before .before .before .extends2 in
+    c .conclude2 .ensures ∙ entry-older _ _ _ _ (given .site) _ (newer-is _ (now (row-call .result)) _ (extends-call .result) (pre-call) (row-call .ensures) (extends-call .ensures) ∙ if1 .left) (backs-is _ _ _ _ (now (row-call .result)) (extends2-call .result) (row-call .ensures) (extends2-call .ensures) ∙ c .before .before .if2 .taken)
 
 against-requires : tie.Need-against-requires
 against-requires c κs = search needs
@@ -51,7 +51,7 @@ returns-3 c =
     let pre-call = c .before .before .before .before .before .before .before .before .before .before .pre in
     let if1 = c .before .before .before .if1 in
     let extends2-call = c .before .before .extends2 in
-    c .against .ensures ∙ entry-neither _ _ _ _ (given .site) _ (newer-is _ (now (row-call .result)) _ (extends-call .result) (pre-call) (row-call .ensures) (extends-call .ensures) ∙ if1 .left) (backs-is _ _ _ _ (now (row-call .result)) (extends2-call .result) (row-call .ensures) (extends2-call .ensures) ∙ c .before .if2 .left)
+    refused (c .before .before .before .before .before .before .before .before .before .before .args .next .now) (c .against .ensures) ∙ entry-neither _ _ _ _ (given .site) _ (newer-is _ (now (row-call .result)) _ (extends-call .result) (pre-call) (row-call .ensures) (extends-call .ensures) ∙ if1 .left) (backs-is _ _ _ _ (now (row-call .result)) (extends2-call .result) (row-call .ensures) (extends2-call .ensures) ∙ c .before .if2 .left)
 
 pub enter-spec : {M : Type 1} → statement M
 enter-spec =

@@ -5,6 +5,7 @@ use borrow.Author.Needs.{needs}
 use borrow.Author.Tests.{not-true, not-false}
 use Rattle.refusal.specs.Rules.{judged}
 use Rattle.learner.specs.Learner.{wrong}
+use Rattle.learner.proofs.Tests.{refused}
 use Rattle.learner.proofs.inspect.Statement.{statement}
 use Rattle.learner.proofs.inspect.Tie as tie
 
@@ -18,7 +19,7 @@ returns : tie.Need-returns
 unfolding judged wrong
 returns c =
     let all-valid-call = c .before .before .all-valid in
-    rw (sym (all-valid-call .ensures) ∙ not-true _ (c .before .if1 .taken)) (c .against .ensures)
+    rw (sym (all-valid-call .ensures) ∙ not-true _ (c .before .if1 .taken)) (refused (c .before .before .before .before .before .before .before .args .next .now) (c .against .ensures))
 
 improper-requires : tie.Need-improper-requires
 improper-requires c κs = search needs
@@ -32,7 +33,7 @@ returns-2 c =
     let all-valid-call = c .before .before .before .before .all-valid in
     let if1 = c .before .before .before .if1 in
     let improper-call = c .before .before .improper in
-    rw (sym (all-valid-call .ensures) ∙ not-false _ (if1 .left), sym (improper-call .ensures) ∙ c .before .if2 .taken) (c .against2 .ensures)
+    rw (sym (all-valid-call .ensures) ∙ not-false _ (if1 .left), sym (improper-call .ensures) ∙ c .before .if2 .taken) (refused (c .before .before .before .before .before .before .before .before .before .args .next .now) (c .against2 .ensures))
 
 enter-requires : tie.Need-enter-requires
 enter-requires c κs = search needs
@@ -40,10 +41,10 @@ enter-requires c κs = search needs
 returns-3 : tie.Need-returns-3
 unfolding judged wrong
 returns-3 c =
-    let all-valid-call = c .before .before .before .before .all-valid in
-    let if1 = c .before .before .before .if1 in
-    let improper-call = c .before .before .improper in
-    rw (sym (all-valid-call .ensures) ∙ not-false _ (if1 .left), sym (improper-call .ensures) ∙ c .before .if2 .left) (c .enter .ensures)
+    let all-valid-call = c .before .before .before .before .before .all-valid in
+    let if1 = c .before .before .before .before .if1 in
+    let improper-call = c .before .before .before .improper in
+    rw (sym (all-valid-call .ensures) ∙ not-false _ (if1 .left), sym (improper-call .ensures) ∙ c .before .before .if2 .left) (c .enter .ensures)
 
 pub inspect-spec : {M : Type 1} → statement M
 inspect-spec =

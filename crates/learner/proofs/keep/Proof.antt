@@ -5,7 +5,7 @@ use Rattle.learner.proofs.keep.Tie as tie
 
 returns : tie.Need-returns
 returns c =
-    rw (c .before .if1 .taken)
+    rw (c .if1 .taken)
 
 returns-2 : tie.Need-returns-2
 returns-2 c =

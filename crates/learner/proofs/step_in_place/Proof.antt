@@ -26,12 +26,13 @@ store-requires c κs = search needs
 
 returns : tie.Need-returns
 returns c =
-    let s = stateOf (c .before .before .before .before .before .before .before .before .before .before .before .before .before .before .before .before .before .before .before .args .words .now) (c .before .before .before .before .before .before .before .before .before .before .before .before .before .before .before .before .before .before .before .args .counts .now) (c .before .before .before .before .before .before .before .before .before .before .before .before .before .before .before .before .before .before .before .args .learned .now) (c .before .before .before .before .before .before .before .before .before .before .before .before .before .before .before .before .before .before .before .args .count .now) in
-    let m = readingWith (c .before .before .before .before .before .before .before .before .before .before .before .before .before .before .before .before .read-into .result) (c .before .before .before .before .before .before .before .before .before .before .before .before .before .before .before .before .read-into .last .1 .1 .0) in
+    let s = stateOf (c .before .before .before .before .before .before .before .before .before .before .before .before .before .before .before .before .before .before .before .before .args .words .now) (c .before .before .before .before .before .before .before .before .before .before .before .before .before .before .before .before .before .before .before .before .args .counts .now) (c .before .before .before .before .before .before .before .before .before .before .before .before .before .before .before .before .before .before .before .before .args .learned .now) (c .before .before .before .before .before .before .before .before .before .before .before .before .before .before .before .before .before .before .before .before .args .count .now) in
+    let m = readingWith (c .before .before .before .before .before .before .before .before .before .before .before .before .before .before .before .before .before .read-into .result) (c .before .before .before .before .before .before .before .before .before .before .before .before .before .before .before .before .before .read-into .last .1 .1 .0) in
+    let next = c .before .before .before .before .before .before .before .judge .last .1 .1 .1 .1 .1 .1 .1 .0 in
     let sized : Sized (s .entries) = record { counts-length = search needs; words-length = search needs } in
-    settled-parts s (m .frame .sender) (arrived (m .frame)) (c .before .before .before .before .before .before .before .judge .result) _ _ (c .store .ensures) (c .before .before .before .before .keep .ensures)
+    settled-parts s (m .frame .sender) (arrived (m .frame)) (c .before .before .before .before .before .before .before .judge .result) next _ _ (c .store .ensures) (c .before .before .before .before .keep .ensures)
     ∙ ap (settled s (m .frame .sender) (arrived (m .frame))) (c .before .before .before .before .before .before .before .judge .ensures)
-    ∙ settled-step (c .before .before .before .before .before .before .before .before .before .before .before .before .before .before .before .before .before .before .before .args .r) s sized (c .before .before .before .before .before .before .before .before .before .before .before .before .before .before .before .before .before .before .before .args .line .now) m (c .before .before .before .before .before .before .before .before .before .before .before .before .before .before .before .before .read-into .ensures)
+    ∙ settled-step (c .before .before .before .before .before .before .before .before .before .before .before .before .before .before .before .before .before .before .before .before .args .r) s sized (c .before .before .before .before .before .before .before .before .before .before .before .before .before .before .before .before .before .before .before .before .args .line .now) m (c .before .before .before .before .before .before .before .before .before .before .before .before .before .before .before .before .before .read-into .ensures)
 
 pub step-in-place-spec : {M : Type 1} → statement M
 step-in-place-spec =
