@@ -28,6 +28,8 @@ def frames(archive):
             calls[name].add(m.group(1))
         elif re.search(r'\scall\s+\*', line):
             sys.exit(f'stack: {name} calls through a pointer')
+        elif (m := re.search(r'\s(?:call|jmp)\s+[0-9a-f]+ <(.*)>$', line)) and m.group(1) == name:
+            calls[name].add(name)
         elif re.search(r'\ssub\s+%\w+,%rsp', line):
             sys.exit(f'stack: the frame of {name} is not fixed')
     return frame, calls
@@ -49,15 +51,16 @@ def main():
     root = os.path.join(os.path.dirname(os.path.abspath(__file__)), '..')
     manual = open(os.path.join(root, 'docs', 'MANUAL.md'), encoding='utf8').read()
     frame, calls = frames(sys.argv[1])
-    failed = False
+    failed = any(name not in calls.get(name, ()) for name in RECURSIVE)
+    if failed:
+        print(f'stack: of {", ".join(RECURSIVE)} not each is there and calls itself', file=sys.stderr)
     for name in sorted(n for n in frame if n.startswith('speckleewe_')):
         used = deepest(name, frame, calls)
         said = re.search(r'^\| `%s` \| ([\d,]+) \|$' % name, manual, flags=re.M)
         print(f'stack: {name} {used} bytes')
         if not said:
-            failed = not name.endswith(('_fresh', '_longest_line')) or failed
-            if not name.endswith(('_fresh', '_longest_line')):
-                print(f'stack: docs/MANUAL.md does not say how much {name} uses', file=sys.stderr)
+            failed = True
+            print(f'stack: docs/MANUAL.md does not say how much {name} uses', file=sys.stderr)
         elif used > int(said.group(1).replace(',', '')):
             failed = True
             print(f'stack: more than docs/MANUAL.md says of {name}', file=sys.stderr)

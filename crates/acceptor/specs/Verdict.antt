@@ -108,7 +108,7 @@ idle k a =
 abbrev pub against : Marks → Refusal → Ruling
 against k e = idle k (Refused e)
 
--- the ballot is taken, and a frame of this kind goes out
+-- the ballot is taken, and a frame of this kind goes out; 0: none
 abbrev pub opening : Marks → Ballot → ℕ → ℕ → Ruling
 opening k ballot fast kind =
     record {

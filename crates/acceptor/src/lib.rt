@@ -145,7 +145,7 @@ fn outsider(r: Roster, site: u8, view: View) -> bool
     (r.n <= site) | !(site == r.leader_of(view))
 }
 
-// The verdict that takes a ballot: what was signed and verified before is forgotten, and a frame of this kind goes out.
+// The verdict that takes a ballot: what was signed and verified before is forgotten, and a frame of this kind goes out (0: none).
 fn take(marks: Marks, ballot: Ballot, fast: u8, kind: u8) -> Verdict
     ensures { λ d. ⌜ d ≡ verdict.opening marks ballot fast kind .verdict ⌝ }
 {

@@ -1,4 +1,4 @@
--- How a line is judged, test by test, as `read` goes.
+-- How a line is judged, test by test, as `read_into` and `read_bare` go.
 use Prim.Native.Nat.{ℕ, zero, suc, _+_, _-_, _*_, _^_, _≤_, _<_}
 use native.Mathlib.Nat.{le-refl, sub-zero, zero-sub, suc-sub-suc}
 use native.Mathlib.Omega.{arith}

@@ -1,4 +1,4 @@
--- What the functions inside `read` and `write` give.
+-- What the functions inside `read_into`, `read_bare` and `write_from` give.
 use Prim.Native.Nat.{ℕ, zero, suc, _-_, _*_, _^_, _≤_, _<_}
 use mathlib.Core.Bool.{Bool, true, false, cond, _&&_}
 use mathlib.Core.List.{List, [], _∷_}

@@ -554,8 +554,8 @@ fn list<'a>(words: &'a [u64; 64]) -> &'a [u64]
     words
 }
 
-// One step in place, on the parts of a leader's state: the answer to a line, how much of the buffer is to be sent, and the marks after it. Any line is
-// answered, whatever the parts hold.
+// One step in place, on the parts of a leader's state: the answer to a line, how much of the buffer is to be sent, and the marks after it; the parts are
+// left as those of the state after it. Any line is answered, whatever the parts hold.
 pub fn step_in_place(
     r: Roster,
     own: u8,
@@ -658,8 +658,8 @@ fn opened(view: View, ballot: Ballot, fast: u8) -> Marks
     }
 }
 
-// Opens a ballot in place, classic where `fast` is 0: P1A or FAST goes out, and the reports are forgotten. Any ballot is answered, whatever the
-// parts hold.
+// Opens a ballot in place, classic where `fast` is 0: P1A or FAST goes out, and the reports are forgotten; pending stays. Any ballot is answered,
+// whatever the parts hold.
 pub fn open_in_place(
     r: Roster,
     own: u8,

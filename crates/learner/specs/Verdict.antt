@@ -1,4 +1,4 @@
--- The verdict on a vote: what is decided of it before the new state is made, from the parts of the state that the code lends. The supporters are
+-- The verdict on a vote: what is decided of it before the state is changed, from the parts of the state that the code lends. The supporters are
 -- counted among the entries as they were, the sender being one of them once its vote is in.
 use mathlib.Core.Bool.{Bool, true, false, not, cond, _&&_, _||_}
 use mathlib.Core.List.{List, [], _∷_}
