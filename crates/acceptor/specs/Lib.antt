@@ -3,4 +3,3 @@ pub mod Acceptor
 pub mod Verdict
 pub mod AcceptorLaws
 pub mod VerdictLaws
-pub mod LineLaws

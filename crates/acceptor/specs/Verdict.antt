@@ -40,13 +40,9 @@ use Rattle.acceptor.specs.Acceptor.{heldOf, provenOf, received, config, 
 
 -- ---- the parts of a state
 
--- what a state keeps beside its histories and its table, and the same of these values
+-- what a state keeps beside its histories and its table
 abbrev pub marksOf : State → Marks
 marksOf s = record { ballot = s .ballot; fast = s .fast; signed = s .signed; certified = s .certified; certificate = s .certificate }
-
-abbrev pub noted : Ballot → ℕ → ℕ → Ballot → ℕ → Marks
-noted ballot fast signed certified certificate =
-    record { ballot = ballot; fast = fast; signed = signed; certified = certified; certificate = certificate }
 
 -- a history of its count and its words
 abbrev pub historyOf : ℕ → List ℕ → History

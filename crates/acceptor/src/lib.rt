@@ -101,19 +101,6 @@ const P2B: u8 = 7;
 // P1A, FAST, PROPOSE, P2A and VERIFY, which are bits 1, 2, 4, 5 and 6.
 const TAKEN: u16 = 118;
 
-// The marks of these values.
-fn note(ballot: Ballot, fast: u8, signed: u8, certified: Ballot, certificate: u16) -> Marks
-    ensures { λ k. ⌜ k ≡ verdict.noted ballot fast signed certified certificate ⌝ }
-{
-    Marks {
-        ballot,
-        fast,
-        signed,
-        certified,
-        certificate,
-    }
-}
-
 // The verdict that changes nothing.
 fn idle(marks: Marks, answer: Answer) -> Verdict
     ensures { λ d. ⌜ d ≡ verdict.idle marks answer .verdict ⌝ }
@@ -828,71 +815,6 @@ pub fn step_in_place(
     replace(d.proves, h, proven_count, proven);
     update(d.opens, d.stores, d.site, h, counts, words);
     finish(d, sent)
-}
-
-// The state of these parts.
-fn state_of(
-    marks: Marks,
-    held_count: u8,
-    held: [u64; 32],
-    proven_count: u8,
-    proven: [u64; 32],
-    counts: [u8; 16],
-    words: [u64; 512],
-) -> State
-    ensures { λ s. ⌜ s ≡ verdict.stateOf marks «held_count» held «proven_count» proven counts words ⌝ }
-{
-    let ballot = marks.ballot;
-    let certified = marks.certified;
-    State {
-        ballot,
-        fast: marks.fast,
-        signed: marks.signed,
-        held: History {
-            count: held_count,
-            words: held,
-        },
-        proven: History {
-            count: proven_count,
-            words: proven,
-        },
-        certified,
-        certificate: marks.certificate,
-        verified: Table { counts, words },
-    }
-}
-
-// One step: the answer to a line, how much of the buffer is to be sent, and the state after it. Any line is answered, in any state.
-pub fn step(r: Roster, own: u8, v: ViewRecord, s: State, line: &[u8], out: &mut [u8]) -> Outcome
-    ensures { λ o. ⌜ (o ≡ spec.returned r own v s (now (line .entry)) (now (out .entry))) × (now (out .exit) ≡ spec.output r own v s (now (line .entry)) (now (out .entry))) ⌝ }
-{
-    let before = note(s.ballot, s.fast, s.signed, s.certified, s.certificate);
-    let mut n = s.held.count;
-    let mut held = s.held.words;
-    let mut m = s.proven.count;
-    let mut proven = s.proven.words;
-    let mut counts = s.verified.counts;
-    let mut words = s.verified.words;
-    let o = step_in_place(
-        r,
-        own,
-        v,
-        before,
-        &mut n,
-        &mut held,
-        &mut m,
-        &mut proven,
-        &mut counts,
-        &mut words,
-        line,
-        out,
-    );
-    let answer = o.answer;
-    Outcome {
-        answer,
-        sent: o.sent,
-        state: state_of(o.marks, n, held, m, proven, counts, words),
-    }
 }
 
 impl State {

@@ -2,5 +2,3 @@
 pub mod Leader
 pub mod Parts
 pub mod PartsLaws
-pub mod LeaderLaws
-pub mod LineLaws

@@ -3,10 +3,12 @@
 // with a frame hands it to the leader; `+` with a P1A or a FAST is the host that opens the ballot of that frame; any other line is a frame
 // for the view change or the acceptor. All but the first two get a line with the answer and, where a frame is sent, a blank and that frame.
 use acceptor::State;
+use history::History;
 use libc::STDIN_FILENO;
 use libc::STDOUT_FILENO;
 use roster::Roster;
 use site::ViewRecord;
+use table::Table;
 
 const LINE_FEED: u8 = 10;
 
@@ -106,9 +108,73 @@ fn change(s: Site, line: &[u8], out: &mut [u8]) -> Site {
     }
 }
 
+// The acceptor's state of these parts.
+fn accepting(marks: acceptor::Marks, held: History, proven: History, verified: Table) -> State {
+    let ballot = marks.ballot;
+    let certified = marks.certified;
+    State {
+        ballot,
+        fast: marks.fast,
+        signed: marks.signed,
+        held,
+        proven,
+        certified,
+        certificate: marks.certificate,
+        verified,
+    }
+}
+
+// The acceptor's step on copies of the parts of its state: what it gives, and the state after it.
+fn step_acceptor(s: Site, line: &[u8], out: &mut [u8]) -> acceptor::Outcome {
+    let before = s.state;
+    let ballot = before.ballot;
+    let certified = before.certified;
+    let marks = acceptor::Marks {
+        ballot,
+        fast: before.fast,
+        signed: before.signed,
+        certified,
+        certificate: before.certificate,
+    };
+    let mut n = before.held.count;
+    let mut held = before.held.words;
+    let mut m = before.proven.count;
+    let mut proven = before.proven.words;
+    let mut counts = before.verified.counts;
+    let mut words = before.verified.words;
+    let o = acceptor::step_in_place(
+        s.roster,
+        s.own,
+        s.views,
+        marks,
+        &mut n,
+        &mut held,
+        &mut m,
+        &mut proven,
+        &mut counts,
+        &mut words,
+        line,
+        out,
+    );
+    let held = History {
+        count: n,
+        words: held,
+    };
+    let proven = History {
+        count: m,
+        words: proven,
+    };
+    let answer = o.answer;
+    acceptor::Outcome {
+        answer,
+        sent: o.sent,
+        state: accepting(o.marks, held, proven, Table { counts, words }),
+    }
+}
+
 // The site after a line for the acceptor.
 fn accept(s: Site, line: &[u8], out: &mut [u8]) -> Site {
-    let o = acceptor::step(s.roster, s.own, s.views, s.state, line, out);
+    let o = step_acceptor(s, line, out);
     let answer = o.answer;
     say(answer.number(), first(out, o.sent));
     let roster = s.roster;
@@ -141,10 +207,71 @@ fn led(s: Site, o: leader::Outcome, out: &[u8]) -> Site {
     }
 }
 
-// The site after a line for the leader.
+// What a leader's state keeps beside its lists.
+fn marks_of(s: leader::State) -> leader::Marks {
+    let view = s.view;
+    let ballot = s.ballot;
+    leader::Marks {
+        view,
+        ballot,
+        classic: s.classic,
+        reported: s.reported,
+    }
+}
+
+// What a call of the leader gives, with the state of the parts that it left.
+fn leading(o: leader::Settled, pending: History, proven: Table, held: Table) -> leader::Outcome {
+    let answer = o.answer;
+    let marks = o.marks;
+    let view = marks.view;
+    let ballot = marks.ballot;
+    leader::Outcome {
+        answer,
+        sent: o.sent,
+        state: leader::State {
+            view,
+            ballot,
+            classic: marks.classic,
+            pending,
+            reported: marks.reported,
+            proven,
+            held,
+        },
+    }
+}
+
+// The site after a line for the leader, whose step is on copies of the parts of its state.
 fn lead(s: Site, line: &[u8], out: &mut [u8]) -> Site {
-    let o = leader::step(s.roster, s.own, s.leading, line, out);
-    led(s, o, out)
+    let before = s.leading;
+    let mut count = before.pending.count;
+    let mut words = before.pending.words;
+    let mut pcounts = before.proven.counts;
+    let mut pwords = before.proven.words;
+    let mut hcounts = before.held.counts;
+    let mut hwords = before.held.words;
+    let o = leader::step_in_place(
+        s.roster,
+        s.own,
+        marks_of(before),
+        &mut count,
+        &mut words,
+        &mut pcounts,
+        &mut pwords,
+        &mut hcounts,
+        &mut hwords,
+        line,
+        out,
+    );
+    let pending = History { count, words };
+    let proven = Table {
+        counts: pcounts,
+        words: pwords,
+    };
+    let held = Table {
+        counts: hcounts,
+        words: hwords,
+    };
+    led(s, leading(o, pending, proven, held), out)
 }
 
 // The site after its host opened the ballot of a P1A or a FAST; a line that is neither counts as ballot 0.
@@ -152,8 +279,37 @@ fn open_ballot(s: Site, line: &[u8], out: &mut [u8]) -> Site {
     let reading = frame::read(line, OPENING);
     let m = reading.frame;
     let fast: u8 = if m.kind == FAST { 1 } else { 0 };
-    let o = leader::open_ballot(s.roster, s.own, s.leading, m.ballot, fast, out);
-    led(s, o, out)
+    let before = s.leading;
+    let mut count = before.pending.count;
+    let mut words = before.pending.words;
+    let mut pcounts = before.proven.counts;
+    let mut pwords = before.proven.words;
+    let mut hcounts = before.held.counts;
+    let mut hwords = before.held.words;
+    let o = leader::open_in_place(
+        s.roster,
+        s.own,
+        marks_of(before),
+        &mut count,
+        &mut words,
+        &mut pcounts,
+        &mut pwords,
+        &mut hcounts,
+        &mut hwords,
+        m.ballot,
+        fast,
+        out,
+    );
+    let pending = History { count, words };
+    let proven = Table {
+        counts: pcounts,
+        words: pwords,
+    };
+    let held = Table {
+        counts: hcounts,
+        words: hwords,
+    };
+    led(s, leading(o, pending, proven, held), out)
 }
 
 // The site after a line.

@@ -54,7 +54,7 @@ use Rattle.leader.specs.Leader.{
   invitation,
   opening,
 }
-use Rattle.leader.specs.LeaderLaws.{
+use Rattle.leader_laws.specs.LeaderLaws.{
   Reports,
   Requests,
   stepped,

@@ -1,0 +1,3 @@
+-- The laws of `leader`: what its definitions imply.
+pub mod LeaderLaws
+pub mod LineLaws
