@@ -11,7 +11,7 @@ learn=$(realpath "$1")
 cd "$(dirname "$0")/.."
 out=target/bench
 mkdir -p "$out"
-gcc -O3 -Wall -Wextra -o "$out/learn-c" bench/learn.c
+gcc -O3 -Wall -Wextra -Iinclude -o "$out/learn-c" bench/learn.c bench/plain_*.c
 
 # best PROGRAM INPUT OUTPUT: sets `us` to the best of three wall times, in
 # microseconds.
