@@ -29,20 +29,21 @@ use Rattle.refusal.specs.declared.Answer.{Answer}
 use Rattle.refusal.specs.declared.Answer.the-variants.{Accepted, Refused}
 use Rattle.refusal.specs.Rules.{judged}
 use Rattle.frame.specs.declared.Frame.{Frame}
+use Rattle.frame.specs.declared.Heading.{Heading}
 use Rattle.frame.specs.declared.Reading.{Reading}
 use Rattle.frame.specs.Layout.{first, second}
-use Rattle.frame.specs.Format.{readingOf}
+use Rattle.frame.specs.Format.{readingOf, frameWith}
 use Rattle.site.specs.Message.{message}
 use Rattle.site.specs.Reply.{Reply, sendsIf, lengthSent, buffer}
 use Rattle.leader.specs.declared.State.{State}
 use Rattle.leader.specs.declared.Marks.{Marks}
 use Rattle.leader.specs.declared.Settled.{Settled}
-use Rattle.leader.specs.declared.Heading.{Heading}
 use Rattle.leader.specs.declared.Outcome.{Outcome}
 use Rattle.leader.specs.Leader as leader
 use Rattle.leader.specs.Leader.{P1B, taken, marksOf, pendingOf, reporting, reportIn, proposed, conclude, accepted, step, mayOpen, inBallot, invitation, opening}
-use Rattle.leader.specs.Parts.{listOf, stateOf, frameOf, headingOf, Done, isAccepted, answerIn, settled, marksAfter, pendingAfter, sendsP2a}
-use Rattle.leader.specs.PartsLaws.{settled-step}
+use Rattle.leader.specs.Parts.{historyOf, stateOf}
+use Rattle.leader.specs.Answers.{isAccepted, answerIn, settled, marksAfter, pendingAfter, sendsP2a, Handed, Done}
+use Rattle.leader.specs.AnswersLaws.{settled-step}
 
 -- ---- the pending commands in place
 
@@ -63,7 +64,7 @@ module _ (b : List ℕ) (k : ℕ) (h : List ℕ) (n : ℕ) (w : List ℕ) (size 
   pub wide : length w ≡ limit
   wide = let short = few in rw (q, length-append, ← p, length-drop, size) (omega arith)
 
-  pub lengthened : (y : List ℕ) → y ≡ padded (length (midOf n (length w - n) w)) [] → listOf n (putMid n (length w - n) w y) ≡ stored (appended (take k b) h)
+  pub lengthened : (y : List ℕ) → y ≡ padded (length (midOf n (length w - n) w)) [] → historyOf n (putMid n (length w - n) w y) ≡ stored (appended (take k b) h)
   lengthened y e =
       let short = few in
       let room = wide in
@@ -73,11 +74,11 @@ module _ (b : List ℕ) (k : ℕ) (h : List ℕ) (n : ℕ) (w : List ℕ) (size 
       let behind : drop (length w - n) (drop n w) ≡ [] = drop-of-length-le (drop n w) {i = length w - n} (rw length-drop (omega arith)) in
       let words : putMid n (length w - n) w y ≡ padded limit all = rw (take-appended b k h n w p q, e, part, behind, append-nil (padded (limit - length all) [])) (zeros limit all (omega (arith, p, short))) in
       let counted : n ≡ min (length all) limit = omega (arith, p, short) in
-      let whole : listOf n (putMid n (length w - n) w y) ≡ stored all = λ i. record { count = counted i; words = words i } in
+      let whole : historyOf n (putMid n (length w - n) w y) ≡ stored all = λ i. record { count = counted i; words = words i } in
       whole ∙ ap (λ (j : ℕ). stored (take j (appended (take k b) h))) size ∙ stored-first (appended (take k b) h)
 
 -- d by value, copied over the words b
-pub shortened : (b l : List ℕ) (d : History) (w : List ℕ) → length b ≡ limit → d ≡ stored l → w ≡ padded (length b) (d .words) → listOf (d .count) w ≡ stored l
+pub shortened : (b l : List ℕ) (d : History) (w : List ℕ) → length b ≡ limit → d ≡ stored l → w ≡ padded (length b) (d .words) → historyOf (d .count) w ≡ stored l
 shortened b l d w size e f =
     let again : padded limit (padded limit l) ≡ padded limit l = rw (length-padded limit l) at (padded-whole (padded limit l)) in
     let words : w ≡ padded limit l = f ∙ ap (λ (n : ℕ). padded n (d .words)) size ∙ ap (λ (x : History). padded limit (x .words)) e ∙ again in
@@ -87,27 +88,27 @@ shortened b l d w size e f =
 
 pub p2a-sent : (own : ℕ) (view : View) (ballot : Ballot) (h out : List ℕ) (m : Frame) (n : ℕ) (l : List ℕ) → length h ≤ limit
     → m ≡ message 5 own view ballot (record { 0 = 0 }) 0 (take limit h) (take limit [])
-    → (n ≡ lengthSent (sendsIf (not (eqb (length h) 0)) m) out) × (l ≡ buffer (sendsIf (not (eqb (length h) 0)) m) out)
-    → (n ≡ lengthSent (sendsP2a own view ballot h) out) × (l ≡ buffer (sendsP2a own view ballot h) out)
+    → Handed (sendsIf (not (eqb (length h) 0)) m) n out l
+    → Handed (sendsP2a own view ballot h) n out l
 p2a-sent own view ballot h out m n l p e z = rw (e, take-all limit h p) at z
 
 -- ---- a report
 
 -- the state with the report: k is the marks after it, c and w the counts and words of the one table, d and x those of the other
-pub stored-report : (marks : Marks) (count : ℕ) (pending pcounts proven hcounts held : List ℕ) (f : Heading) (words : List ℕ) (k : Marks) (g h c w d x : List ℕ)
-    → length pcounts ≡ 16
+pub stored-report : (marks : Marks) (count : ℕ) (pending provenCounts proven heldCounts held : List ℕ) (f : Heading) (words : List ℕ) (k : Marks) (g h c w d x : List ℕ)
+    → length provenCounts ≡ 16
     → length proven ≡ 512
-    → length hcounts ≡ 16
+    → length heldCounts ≡ 16
     → length held ≡ 512
     → k ≡ record { view = marks .view; ballot = marks .ballot; classic = marks .classic; reported = withSite (marks .reported) (f .sender) }
-    → g ≡ first (frameOf f words)
-    → tableOf w c ≡ storedIn proven pcounts (f .sender) g
-    → h ≡ second (frameOf f words)
-    → tableOf x d ≡ storedIn held hcounts (f .sender) h
-    → stateOf k count pending c w d x ≡ reporting (stateOf marks count pending pcounts proven hcounts held) (frameOf f words)
-stored-report marks count pending pcounts proven hcounts held f words k g h c w d x l1 l2 l3 l4 ek eg et eh eu =
-    let t = et ∙ stored-in proven pcounts (f .sender) g (omega arith) (omega arith) in
-    let u = eu ∙ stored-in held hcounts (f .sender) h (omega arith) (omega arith) in
+    → g ≡ first (frameWith f words)
+    → tableOf w c ≡ storedIn proven provenCounts (f .sender) g
+    → h ≡ second (frameWith f words)
+    → tableOf x d ≡ storedIn held heldCounts (f .sender) h
+    → stateOf k count pending c w d x ≡ reporting (stateOf marks count pending provenCounts proven heldCounts held) (frameWith f words)
+stored-report marks count pending provenCounts proven heldCounts held f words k g h c w d x l1 l2 l3 l4 ek eg et eh eu =
+    let t = et ∙ stored-in proven provenCounts (f .sender) g (omega arith) (omega arith) in
+    let u = eu ∙ stored-in held heldCounts (f .sender) h (omega arith) (omega arith) in
     rw (ek, t, u, eg, eh)
 
 module _ (r : Roster) (own : ℕ) (s : State) (out : List ℕ) where
@@ -129,7 +130,7 @@ module _ (r : Roster) (own : ℕ) (s : State) (out : List ℕ) where
       → p ≡ pendingOf s
       → d ≡ stored (proposal (r .n) (reportIn s (s .proven)) (reportIn s (s .held)) p)
       → h ≡ commands d
-      → (n ≡ lengthSent (sendsP2a own (s .view) (s .ballot) h) out) × (l ≡ buffer (sendsP2a own (s .view) (s .ballot) h) out)
+      → Handed (sendsP2a own (s .view) (s .ballot) h) n out l
       → e ≡ stored (remaining (pendingOf s) h)
       → Done (conclude r own s) out
       (record {
@@ -192,15 +193,14 @@ module _ (r : Roster) (own : ℕ) (s : State) (m : Frame) (out : List ℕ) where
       go e true f = (rw (z .0, z .1, e, f), rw (e, f))
       go e false f = (rw (z .0, z .1, e, f), rw (e, f))
 
--- ---- a line: d is what reading it found, f the heading of its frame, a the answer, o what is returned and l the buffer
+-- ---- a line: d is what reading it found, a the answer, o what is returned and l the buffer
 
-pub steps : (r : Roster) (own : ℕ) (s : State) (line out : List ℕ) (d : Reading) (f : Heading) (a : Answer) (o : Outcome) (l : List ℕ) → d ≡ readingOf line taken
-    → f ≡ headingOf (d .frame)
-    → a ≡ answerIn r own (length out) s (d .found) (frameOf f (d .frame .words))
-    → Done (settled r own s a (frameOf f (d .frame .words))) out o l
+pub steps : (r : Roster) (own : ℕ) (s : State) (line out : List ℕ) (d : Reading) (a : Answer) (o : Outcome) (l : List ℕ) → d ≡ readingOf line taken
+    → a ≡ answerIn r own (length out) s d
+    → Done (settled r own s a (d .frame)) out o l
     → Done (step r own (length out) s line) out o l
-steps r own s line out d f a o l ed ef ea p =
-    let same : settled r own s a (frameOf f (d .frame .words)) ≡ step r own (length out) s line = rw (ea, ef, ed) (settled-step r own (length out) s line) in
+steps r own s line out d a o l ed ea p =
+    let same : settled r own s a (d .frame) ≡ step r own (length out) s line = rw (ea, ed) (settled-step r own (length out) s line) in
     subst (λ (x : Reply State). Done x out o l) same p
 
 -- ---- opening a ballot: by CONFIG, by STALE, and accepted, where m is the frame made, n the length of its line and l the buffer, and k the marks
@@ -219,7 +219,7 @@ module _ (r : Roster) (own : ℕ) (s : State) (ballot : Ballot) (fast : ℕ) (ou
 
     pub opens : mayOpen r own (marksOf s) ballot ≡ true → (m : Frame) (t : State) (n : ℕ) (l : List ℕ) → m ≡ invitation own (s .view) ballot fast
         → t ≡ inBallot (s .view) ballot fast (s .pending)
-        → (n ≡ lengthSent (sendsIf true m) out) × (l ≡ buffer (sendsIf true m) out)
+        → Handed (sendsIf true m) n out l
         → Done (opening r own (length out) s ballot fast) out (record { answer = Accepted; sent = n; state = t }) l
     unfolding opening judged
     opens q m t n l x y z = (rw (p, q, y, z .0, x), z .1 ∙ rw (p, q, x))

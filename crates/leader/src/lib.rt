@@ -9,11 +9,14 @@ ghost use Rattle.history.specs.Words.{limit, stored};
 ghost use Rattle.merge.specs.Merge.{appended};
 ghost use Rattle.proposal.specs.Proposal.{remaining};
 ghost use Rattle.roster.specs.Mask.{withSite};
-ghost use Rattle.frame.specs.Format.{frameWith};
-ghost use Rattle.site.specs.Reply.{buffer, lengthSent, sends};
+ghost use Rattle.table.specs.Table.{emptyTable, tableOf};
+ghost use Rattle.frame.specs.Format.{frameWith, readingWith};
+ghost use Rattle.site.specs.Reply.{sends};
 ghost use Rattle.site.specs.Site.{isSet};
 ghost use Rattle.leader.specs.Leader as spec;
 ghost use Rattle.leader.specs.Parts as parts;
+ghost use Rattle.leader.specs.Answers as answers;
+use frame::Heading;
 use history::History;
 use refusal::Answer;
 use refusal::Refusal;
@@ -61,18 +64,6 @@ pub struct Settled {
     pub marks: Marks,
 }
 
-// A frame but for its commands.
-struct Heading {
-    kind: u8,
-    sender: u8,
-    view: View,
-    ballot: Ballot,
-    proven: Ballot,
-    mask: u16,
-    n: u8,
-    m: u8,
-}
-
 // The kinds of frames taken and sent, but for LEADER, which is what is left of those taken.
 const P1A: u8 = 1;
 
@@ -89,7 +80,7 @@ const TAKEN: u16 = 1048;
 
 // Whether pending commands may be lent: at most 32, valid, no proposer and serial twice. Their order is free.
 fn pending_valid(count: u8, words: &[u64]) -> bool
-    ensures { λ b. ⌜ b ≡ spec.validPending (parts.listOf count (now (words .entry))) ⌝ }
+    ensures { λ b. ⌜ b ≡ spec.validPending (parts.historyOf count (now (words .entry))) ⌝ }
 {
     let n = count as usize;
     let fits = n <= History::LIMIT;
@@ -108,18 +99,18 @@ fn config<'a>(
     marks: Marks,
     count: u8,
     pending: &'a [u64],
-    pcounts: &'a [u8],
+    proven_counts: &'a [u8],
     proven: &'a [u64],
-    hcounts: &'a [u8],
+    held_counts: &'a [u8],
     held: &'a [u64],
 ) -> bool
-    ensures { λ b. ⌜ b ≡ spec.config r own room (parts.stateOf marks count (now (pending .entry)) (now (pcounts .entry)) (now (proven .entry)) (now (hcounts .entry)) (now (held .entry))) ⌝ }
+    ensures { λ b. ⌜ b ≡ spec.config r own room (parts.stateOf marks count (now (pending .entry)) (now («proven_counts» .entry)) (now (proven .entry)) (now («held_counts» .entry)) (now (held .entry))) ⌝ }
 {
     !(site::seated(r, own, room)
         & (pending_valid(count, pending)
             & (!roster::beyond(marks.reported, r.n)
-                & (table::rows_valid(proven, pcounts, r.n)
-                    & table::rows_valid(held, hcounts, r.n)))))
+                & (table::rows_valid(proven, proven_counts, r.n)
+                    & table::rows_valid(held, held_counts, r.n)))))
 }
 
 // Whether a mask has a bit at N or above, or fewer than N-f ones.
@@ -139,14 +130,14 @@ fn leads(r: Roster, own: u8, marks: Marks, view: View) -> bool
 
 // The answer to a LEADER.
 fn on_leader(r: Roster, own: u8, marks: Marks, f: Heading) -> Answer
-    ensures { λ a. ⌜ a ≡ parts.answer (spec.leaderRules r own marks (parts.frameOf f [])) ⌝ }
+    ensures { λ a. ⌜ a ≡ answers.answer (spec.leaderRules r own marks (frameWith f [])) ⌝ }
 {
     let unknown = r.n <= f.sender;
     if unknown {
         return Answer::Refused(Refusal::Sender);
     }
-    let ours = leads(r, own, marks, f.view);
-    if !ours {
+    let leading = leads(r, own, marks, f.view);
+    if !leading {
         return Answer::Refused(Refusal::Stale);
     }
     let weak = unproven(r, f.mask);
@@ -170,8 +161,8 @@ fn overflows(p: &[u64], h: &[u64]) -> bool
 
 // The answer to a PROPOSE: sender, commands and requests, and then what is pending.
 fn on_propose<'a>(pending: &'a [u64], f: Heading, words: &'a [u64]) -> Answer
-    requires { ⌜ parts.Short (now pending) (parts.frameOf f (now words)) ⌝ }
-    ensures { λ a. ⌜ a ≡ parts.answer (spec.proposeRules (now (pending .entry)) (parts.frameOf f (now (words .entry)))) ⌝ }
+    requires { ⌜ answers.Short (now pending) (frameWith f (now words)) ⌝ }
+    ensures { λ a. ⌜ a ≡ answers.answer (spec.proposeRules (now (pending .entry)) (frameWith f (now (words .entry)))) ⌝ }
 {
     let nobody = f.sender == 0;
     if nobody {
@@ -247,7 +238,7 @@ fn after<'a>(words: &'a [u64], n: usize, m: usize) -> &'a [u64]
 
 // The answer to a P1B: sender, ballot and proof, and then the two histories.
 fn on_report(r: Roster, marks: Marks, f: Heading, words: &[u64]) -> Answer
-    ensures { λ a. ⌜ a ≡ parts.answer (spec.reportRules r marks (parts.frameOf f (now (words .entry)))) ⌝ }
+    ensures { λ a. ⌜ a ≡ answers.answer (spec.reportRules r marks (frameWith f (now (words .entry)))) ⌝ }
 {
     let unknown = r.n <= f.sender;
     if unknown {
@@ -285,8 +276,8 @@ fn judge<'a>(
     f: Heading,
     words: &'a [u64],
 ) -> Answer
-    requires { ⌜ parts.Short (now pending) (parts.frameOf f (now words)) ⌝ }
-    ensures { λ a. ⌜ a ≡ parts.answerTo r own marks (now (pending .entry)) (parts.frameOf f (now (words .entry))) ⌝ }
+    requires { ⌜ answers.Short (now pending) (frameWith f (now words)) ⌝ }
+    ensures { λ a. ⌜ a ≡ answers.answerTo r own marks (now (pending .entry)) (frameWith f (now (words .entry))) ⌝ }
 {
     let report = f.kind == P1B;
     if report {
@@ -307,16 +298,15 @@ fn check<'a>(
     marks: Marks,
     count: u8,
     pending: &'a [u64],
-    pcounts: &'a [u8],
+    proven_counts: &'a [u8],
     proven: &'a [u64],
-    hcounts: &'a [u8],
+    held_counts: &'a [u8],
     held: &'a [u64],
-    found: bool,
     f: Heading,
     words: &'a [u64],
 ) -> Answer
     requires { ⌜ (length (now pending) ≤ 32) × (f .n ≤ 32) ⌝ }
-    ensures { λ a. ⌜ a ≡ parts.answerIn r own room (parts.stateOf marks count (now (pending .entry)) (now (pcounts .entry)) (now (proven .entry)) (now (hcounts .entry)) (now (held .entry))) found (parts.frameOf f (now (words .entry))) ⌝ }
+    ensures { λ a. ⌜ a ≡ answers.answerIn r own room (parts.stateOf marks count (now (pending .entry)) (now («proven_counts» .entry)) (now (proven .entry)) (now («held_counts» .entry)) (now (held .entry))) (readingWith f (now (words .entry))) ⌝ }
 {
     let unfit = config(
         r,
@@ -325,14 +315,15 @@ fn check<'a>(
         marks,
         count,
         pending,
-        pcounts,
+        proven_counts,
         proven,
-        hcounts,
+        held_counts,
         held,
     );
     if unfit {
         return Answer::Refused(Refusal::Config);
     }
+    let found = f.found;
     if !found {
         return Answer::Refused(Refusal::Form);
     }
@@ -342,7 +333,7 @@ fn check<'a>(
 
 // Whether an answer accepts.
 fn accepts(a: Answer) -> bool
-    ensures { λ b. ⌜ b ≡ parts.isAccepted a ⌝ }
+    ensures { λ b. ⌜ b ≡ answers.isAccepted a ⌝ }
 {
     match a {
         Answer::Accepted => true,
@@ -353,7 +344,7 @@ fn accepts(a: Answer) -> bool
 // Appends to the pending commands those of h that are not there yet, up to 32, and leaves zeros after them.
 fn lengthen(count: &mut u8, pending: &mut [u64], h: &[u64])
     requires { ⌜ length (now pending) ≡ 32 ⌝ }
-    ensures { λ u. ⌜ parts.listOf (now (count .exit)) (now (pending .exit)) ≡ stored (appended (take (now (count .entry)) (now (pending .entry))) (now (h .entry))) ⌝ }
+    ensures { λ u. ⌜ parts.historyOf (now (count .exit)) (now (pending .exit)) ≡ stored (appended (take (now (count .entry)) (now (pending .entry))) (now (h .entry))) ⌝ }
 {
     let present = *count;
     let n = merge::append(pending, present as usize, h);
@@ -365,7 +356,7 @@ fn lengthen(count: &mut u8, pending: &mut [u64], h: &[u64])
 // Keeps of the pending commands those that h does not hold, and leaves zeros after them.
 fn shorten(count: &mut u8, pending: &mut [u64], h: &[u64])
     requires { ⌜ length (now pending) ≡ 32 ⌝ }
-    ensures { λ u. ⌜ parts.listOf (now (count .exit)) (now (pending .exit)) ≡ stored (remaining (take (now (count .entry)) (now (pending .entry))) (now (h .entry))) ⌝ }
+    ensures { λ u. ⌜ parts.historyOf (now (count .exit)) (now (pending .exit)) ≡ stored (remaining (take (now (count .entry)) (now (pending .entry))) (now (h .entry))) ⌝ }
 {
     let present = *count;
     let all: &[u64] = pending;
@@ -378,7 +369,7 @@ fn shorten(count: &mut u8, pending: &mut [u64], h: &[u64])
 // Writes the P2A of a proposal, if it is not empty, and answers the length of its line.
 fn send_p2a(own: u8, view: View, ballot: Ballot, h: &[u64], out: &mut [u8]) -> usize
     requires { ⌜ length (now h) ≤ 32 ⌝ }
-    ensures { λ k. ⌜ (k ≡ lengthSent (parts.sendsP2a own view ballot (now (h .entry))) (now (out .entry))) × (now (out .exit) ≡ buffer (parts.sendsP2a own view ballot (now (h .entry))) (now (out .entry))) ⌝ }
+    ensures { λ k. ⌜ answers.Handed (answers.sendsP2a own view ballot (now (h .entry))) k (now (out .entry)) (now (out .exit)) ⌝ }
 {
     let none: [u64; 0] = [];
     site::send(
@@ -395,6 +386,17 @@ fn send_p2a(own: u8, view: View, ballot: Ballot, h: &[u64], out: &mut [u8]) -> u
     )
 }
 
+// What a call gives that sends no frame.
+fn silent(marks: Marks, answer: Answer) -> Settled
+    ensures { λ o. ⌜ o ≡ record { answer = answer; sent = 0; marks = marks } ⌝ }
+{
+    Settled {
+        answer,
+        sent: 0,
+        marks,
+    }
+}
+
 // On report N-f, proposes a history of the reports and of what is pending, and keeps pending what it does not hold. Before that, nothing.
 fn conclude<'a>(
     r: Roster,
@@ -402,26 +404,30 @@ fn conclude<'a>(
     marks: Marks,
     count: &mut u8,
     pending: &mut [u64; 32],
-    pcounts: &'a [u8],
+    proven_counts: &'a [u8],
     proven: &'a [u64],
-    hcounts: &'a [u8],
+    held_counts: &'a [u8],
     held: &'a [u64],
     out: &mut [u8],
 ) -> Settled
-    ensures { λ o. ⌜ parts.Done (spec.conclude r own (parts.stateOf marks (now (count .entry)) (now (pending .entry)) (now (pcounts .entry)) (now (proven .entry)) (now (hcounts .entry)) (now (held .entry)))) (now (out .entry)) (parts.outcomeOf o (now (count .exit)) (now (pending .exit)) (now (pcounts .entry)) (now (proven .entry)) (now (hcounts .entry)) (now (held .entry))) (now (out .exit)) ⌝ }
+    ensures { λ o. ⌜ answers.Done (spec.conclude r own (parts.stateOf marks (now (count .entry)) (now (pending .entry)) (now («proven_counts» .entry)) (now (proven .entry)) (now («held_counts» .entry)) (now (held .entry)))) (now (out .entry)) (parts.outcomeOf o (now (count .exit)) (now (pending .exit)) (now («proven_counts» .entry)) (now (proven .entry)) (now («held_counts» .entry)) (now (held .entry))) (now (out .exit)) ⌝ }
 {
     let complete = roster::reaches(marks.reported, r.quorum());
     if !complete {
-        return Settled {
-            answer: Answer::Accepted,
-            sent: 0,
-            marks,
-        };
+        return silent(marks, Answer::Accepted);
     }
     let present = *count;
     let all: &[u64] = pending;
     let p = history::first(all, present as usize);
-    let proposed = proposal::propose(proven, pcounts, held, hcounts, marks.reported, r.n, p);
+    let proposed = proposal::propose(
+        proven,
+        proven_counts,
+        held,
+        held_counts,
+        marks.reported,
+        r.n,
+        p,
+    );
     let words: &[u64] = &proposed.words;
     let h = history::first(words, proposed.count as usize);
     let sent = send_p2a(own, marks.view, marks.ballot, h, out);
@@ -456,19 +462,19 @@ fn collect(
     words: &[u64],
     count: &mut u8,
     pending: &mut [u64; 32],
-    pcounts: &mut [u8; 16],
+    proven_counts: &mut [u8; 16],
     proven: &mut [u64; 512],
-    hcounts: &mut [u8; 16],
+    held_counts: &mut [u8; 16],
     held: &mut [u64; 512],
     out: &mut [u8],
 ) -> Settled
-    ensures { λ o. ⌜ parts.Done (spec.accepted spec.P1B r own (parts.stateOf marks (now (count .entry)) (now (pending .entry)) (now (pcounts .entry)) (now (proven .entry)) (now (hcounts .entry)) (now (held .entry))) (parts.frameOf f (now (words .entry)))) (now (out .entry)) (parts.outcomeOf o (now (count .exit)) (now (pending .exit)) (now (pcounts .exit)) (now (proven .exit)) (now (hcounts .exit)) (now (held .exit))) (now (out .exit)) ⌝ }
+    ensures { λ o. ⌜ answers.Done (spec.accepted spec.P1B r own (parts.stateOf marks (now (count .entry)) (now (pending .entry)) (now («proven_counts» .entry)) (now (proven .entry)) (now («held_counts» .entry)) (now (held .entry))) (frameWith f (now (words .entry)))) (now (out .entry)) (parts.outcomeOf o (now (count .exit)) (now (pending .exit)) (now («proven_counts» .exit)) (now (proven .exit)) (now («held_counts» .exit)) (now (held .exit))) (now (out .exit)) ⌝ }
 {
     let n = f.n as usize;
     let k = f.m as usize;
     let site = f.sender as usize;
-    table::store(proven, pcounts, site, history::first(words, n));
-    table::store(held, hcounts, site, after(words, n, k));
+    table::store(proven, proven_counts, site, history::first(words, n));
+    table::store(held, held_counts, site, after(words, n, k));
     let now = reporting(marks, f.sender);
     conclude(
         r,
@@ -476,9 +482,9 @@ fn collect(
         now,
         count,
         pending,
-        pcounts,
+        proven_counts,
         proven,
-        hcounts,
+        held_counts,
         held,
         out,
     )
@@ -493,58 +499,26 @@ fn settle(
     count: &mut u8,
     pending: &mut [u64; 32],
 ) -> Settled
-    ensures { λ o. ⌜ (o ≡ record { answer = answer; sent = 0; marks = parts.marksAfter answer marks (parts.frameOf f (now (words .entry))) }) × (parts.listOf (now (count .exit)) (now (pending .exit)) ≡ parts.pendingAfter answer (parts.listOf (now (count .entry)) (now (pending .entry))) (parts.frameOf f (now (words .entry)))) ⌝ }
+    ensures { λ o. ⌜ (o ≡ record { answer = answer; sent = 0; marks = answers.marksAfter answer marks (frameWith f (now (words .entry))) }) × (parts.historyOf (now (count .exit)) (now (pending .exit)) ≡ answers.pendingAfter answer (parts.historyOf (now (count .entry)) (now (pending .entry))) (frameWith f (now (words .entry)))) ⌝ }
 {
     let accepted = accepts(answer);
     if !accepted {
-        return Settled {
-            answer,
-            sent: 0,
-            marks,
-        };
+        return silent(marks, answer);
     }
     let request = f.kind == PROPOSE;
     if request {
         lengthen(count, pending, history::first(words, f.n as usize));
-        return Settled {
-            answer,
-            sent: 0,
-            marks,
-        };
+        return silent(marks, answer);
     }
     let view = f.view;
     let ballot = marks.ballot;
-    Settled {
-        answer,
-        sent: 0,
-        marks: Marks {
-            view,
-            ballot,
-            classic: marks.classic,
-            reported: marks.reported,
-        },
-    }
-}
-
-impl Heading {
-    // A frame's heading, as it was read.
-    fn of(m: frame::Heading) -> Heading
-        ensures { λ f. ⌜ f ≡ parts.headingOf (frameWith m []) ⌝ }
-    {
-        let view = m.view;
-        let ballot = m.ballot;
-        let proven = m.proven;
-        Heading {
-            kind: m.kind,
-            sender: m.sender,
-            view,
-            ballot,
-            proven,
-            mask: m.mask,
-            n: m.n,
-            m: m.m,
-        }
-    }
+    let now = Marks {
+        view,
+        ballot,
+        classic: marks.classic,
+        reported: marks.reported,
+    };
+    silent(now, answer)
 }
 
 // A frame's words as a list.
@@ -562,18 +536,17 @@ pub fn step_in_place(
     marks: Marks,
     count: &mut u8,
     pending: &mut [u64; 32],
-    pcounts: &mut [u8; 16],
+    proven_counts: &mut [u8; 16],
     proven: &mut [u64; 512],
-    hcounts: &mut [u8; 16],
+    held_counts: &mut [u8; 16],
     held: &mut [u64; 512],
     line: &[u8],
     out: &mut [u8],
 ) -> Settled
-    ensures { λ o. ⌜ parts.Done (spec.step r own (length (now (out .entry))) (parts.stateOf marks (now (count .entry)) (now (pending .entry)) (now (pcounts .entry)) (now (proven .entry)) (now (hcounts .entry)) (now (held .entry))) (now (line .entry))) (now (out .entry)) (parts.outcomeOf o (now (count .exit)) (now (pending .exit)) (now (pcounts .exit)) (now (proven .exit)) (now (hcounts .exit)) (now (held .exit))) (now (out .exit)) ⌝ }
+    ensures { λ o. ⌜ (parts.outcomeOf o (now (count .exit)) (now (pending .exit)) (now («proven_counts» .exit)) (now (proven .exit)) (now («held_counts» .exit)) (now (held .exit)) ≡ spec.returned r own (parts.stateOf marks (now (count .entry)) (now (pending .entry)) (now («proven_counts» .entry)) (now (proven .entry)) (now («held_counts» .entry)) (now (held .entry))) (now (line .entry)) (now (out .entry))) × (now (out .exit) ≡ spec.output r own (parts.stateOf marks (now (count .entry)) (now (pending .entry)) (now («proven_counts» .entry)) (now (proven .entry)) (now («held_counts» .entry)) (now (held .entry))) (now (line .entry)) (now (out .entry))) ⌝ }
 {
     let mut read = [0u64; 64];
-    let m = frame::read_into(line, TAKEN, &mut read);
-    let f = Heading::of(m);
+    let f = frame::read_into(line, TAKEN, &mut read);
     let words = list(&read);
     let room = out.len();
     let answer = check(
@@ -583,11 +556,10 @@ pub fn step_in_place(
         marks,
         *count,
         pending,
-        pcounts,
+        proven_counts,
         proven,
-        hcounts,
+        held_counts,
         held,
-        m.found,
         f,
         words,
     );
@@ -601,9 +573,9 @@ pub fn step_in_place(
             words,
             count,
             pending,
-            pcounts,
+            proven_counts,
             proven,
-            hcounts,
+            held_counts,
             held,
             out,
         );
@@ -628,7 +600,7 @@ fn pick(first: bool, a: u8, b: u8) -> u8
 
 // Sends the frame that opens a ballot, FAST where the flag is set, else P1A, and answers the length of its line.
 fn invite(own: u8, view: View, ballot: Ballot, fast: u8, out: &mut [u8]) -> usize
-    ensures { λ k. ⌜ (k ≡ lengthSent (sends (spec.invitation own view ballot fast)) (now (out .entry))) × (now (out .exit) ≡ buffer (sends (spec.invitation own view ballot fast)) (now (out .entry))) ⌝ }
+    ensures { λ k. ⌜ answers.Handed (sends (spec.invitation own view ballot fast)) k (now (out .entry)) (now (out .exit)) ⌝ }
 {
     let none: [u64; 0] = [];
     let kind = pick(!(fast == 0), FAST, P1A);
@@ -658,6 +630,21 @@ fn opened(view: View, ballot: Ballot, fast: u8) -> Marks
     }
 }
 
+// Empties the tables of the reports.
+fn forget(
+    proven_counts: &mut [u8; 16],
+    proven: &mut [u64; 512],
+    held_counts: &mut [u8; 16],
+    held: &mut [u64; 512],
+)
+    ensures { λ u. ⌜ (tableOf (now (proven .exit)) (now («proven_counts» .exit)) ≡ emptyTable) × (tableOf (now (held .exit)) (now («held_counts» .exit)) ≡ emptyTable) ⌝ }
+{
+    *proven_counts = [0u8; 16];
+    *proven = [0u64; 512];
+    *held_counts = [0u8; 16];
+    *held = [0u64; 512];
+}
+
 // Opens a ballot in place, classic where `fast` is 0: P1A or FAST goes out, and the reports are forgotten; pending stays. Any ballot is answered,
 // whatever the parts hold.
 pub fn open_in_place(
@@ -666,15 +653,15 @@ pub fn open_in_place(
     marks: Marks,
     count: &mut u8,
     pending: &mut [u64; 32],
-    pcounts: &mut [u8; 16],
+    proven_counts: &mut [u8; 16],
     proven: &mut [u64; 512],
-    hcounts: &mut [u8; 16],
+    held_counts: &mut [u8; 16],
     held: &mut [u64; 512],
     ballot: Ballot,
     fast: u8,
     out: &mut [u8],
 ) -> Settled
-    ensures { λ o. ⌜ parts.Done (spec.opening r own (length (now (out .entry))) (parts.stateOf marks (now (count .entry)) (now (pending .entry)) (now (pcounts .entry)) (now (proven .entry)) (now (hcounts .entry)) (now (held .entry))) ballot fast) (now (out .entry)) (parts.outcomeOf o (now (count .exit)) (now (pending .exit)) (now (pcounts .exit)) (now (proven .exit)) (now (hcounts .exit)) (now (held .exit))) (now (out .exit)) ⌝ }
+    ensures { λ o. ⌜ (parts.outcomeOf o (now (count .exit)) (now (pending .exit)) (now («proven_counts» .exit)) (now (proven .exit)) (now («held_counts» .exit)) (now (held .exit)) ≡ spec.openingReturned r own (parts.stateOf marks (now (count .entry)) (now (pending .entry)) (now («proven_counts» .entry)) (now (proven .entry)) (now («held_counts» .entry)) (now (held .entry))) ballot fast (now (out .entry))) × (now (out .exit) ≡ spec.openingOutput r own (parts.stateOf marks (now (count .entry)) (now (pending .entry)) (now («proven_counts» .entry)) (now (proven .entry)) (now («held_counts» .entry)) (now (held .entry))) ballot fast (now (out .entry))) ⌝ }
 {
     let room = out.len();
     let unfit = config(
@@ -684,31 +671,20 @@ pub fn open_in_place(
         marks,
         *count,
         pending,
-        pcounts,
+        proven_counts,
         proven,
-        hcounts,
+        held_counts,
         held,
     );
     if unfit {
-        return Settled {
-            answer: Answer::Refused(Refusal::Config),
-            sent: 0,
-            marks,
-        };
+        return silent(marks, Answer::Refused(Refusal::Config));
     }
     let may = may_open(r, own, marks, ballot);
     if !may {
-        return Settled {
-            answer: Answer::Refused(Refusal::Stale),
-            sent: 0,
-            marks,
-        };
+        return silent(marks, Answer::Refused(Refusal::Stale));
     }
     let sent = invite(own, marks.view, ballot, fast, out);
-    *pcounts = [0u8; 16];
-    *proven = [0u64; 512];
-    *hcounts = [0u8; 16];
-    *held = [0u64; 512];
+    forget(proven_counts, proven, held_counts, held);
     let now = opened(marks.view, ballot, fast);
     Settled {
         answer: Answer::Accepted,

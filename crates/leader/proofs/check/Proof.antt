@@ -7,7 +7,8 @@ use native.Mathlib.Omega.{arith}
 use borrow.Author.Tests.{not-true, not-false}
 use lib.ListN.{length-take}
 use Rattle.refusal.specs.Rules.{judged}
-use Rattle.leader.specs.Parts.{answerIn, answerTo, frameOf}
+use Rattle.frame.specs.Format.{frameWith}
+use Rattle.leader.specs.Answers.{answerIn, answerTo}
 use borrow.Author.Needs.{needs}
 use Rattle.leader.proofs.check.Statement.{statement}
 use Rattle.leader.proofs.check.Tie as tie
@@ -29,7 +30,7 @@ returns-2 c =
     let if1 = c .before .if1 in
     let given = c .before .before .before .before .before .before .before .before .before .args in
     let if2 = c .if2 in
-    rw (sym (config-call .ensures) ∙ if1 .left, not-true (given .found) (if2 .taken))
+    rw (sym (config-call .ensures) ∙ if1 .left, not-true (given .f .found) (if2 .taken))
 
 first-requires : tie.Need-first-requires
 first-requires c κs = search needs
@@ -49,7 +50,7 @@ returns-3 c =
     let if2 = c .before .before .if2 in
     let judge-call = c .judge in
     let first-call = c .before .first in
-    rw (sym (config-call .ensures) ∙ if1 .left, not-false (given .found) (if2 .left)) (judge-call .ensures ∙ ap (λ (l : List ℕ). answerTo (given .r) (given .own) (given .marks) l (frameOf (given .f) (given .words .now))) (first-call .ensures))
+    rw (sym (config-call .ensures) ∙ if1 .left, not-false (given .f .found) (if2 .left)) (judge-call .ensures ∙ ap (λ (l : List ℕ). answerTo (given .r) (given .own) (given .marks) l (frameWith (given .f) (given .words .now))) (first-call .ensures))
 
 pub check-spec : {M : Type 1} → statement M
 check-spec =

@@ -1,6 +1,6 @@
 -- `leader::judge` meets its contract: it hands the frame on by its kind.
 -- Assumes nothing.
-use Rattle.leader.specs.Parts.{answerTo}
+use Rattle.leader.specs.Answers.{answerTo}
 use borrow.Author.Needs.{needs}
 use Rattle.leader.proofs.judge.Statement.{statement}
 use Rattle.leader.proofs.judge.Tie as tie

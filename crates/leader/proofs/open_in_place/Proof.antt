@@ -2,7 +2,6 @@
 -- Assumes nothing.
 use mathlib.Core.Path.{refl, sym, _∙_}
 use borrow.Author.Tests.{not-true, not-false}
-use Rattle.table.specs.Table.{emptyTable}
 use Rattle.leader.specs.Parts.{stateOf}
 use Rattle.leader.proofs.Calls.{opens-unfit, opens-stale, opens}
 use borrow.Author.Needs.{needs}
@@ -12,19 +11,32 @@ use Rattle.leader.proofs.open_in_place.Tie as tie
 config-requires : tie.Need-config-requires
 config-requires c κs = search needs
 
+silent-requires : tie.Need-silent-requires
+silent-requires c κs = search needs
+
 returns : tie.Need-returns
 returns c =
-    opens-unfit (c .before .before .before .before .before .before .before .before .before .before .before .before .before .before .args .r) (c .before .before .before .before .before .before .before .before .before .before .before .before .before .before .args .own) (stateOf (c .before .before .before .before .before .before .before .before .before .before .before .before .before .before .args .marks) (c .before .before .before .before .before .before .before .before .before .before .before .before .before .before .args .count .now) (c .before .before .before .before .before .before .before .before .before .before .before .before .before .before .args .pending .now) (c .before .before .before .before .before .before .before .before .before .before .before .before .before .before .args .pcounts .now) (c .before .before .before .before .before .before .before .before .before .before .before .before .before .before .args .proven .now) (c .before .before .before .before .before .before .before .before .before .before .before .before .before .before .args .hcounts .now) (c .before .before .before .before .before .before .before .before .before .before .before .before .before .before .args .held .now)) (c .before .before .before .before .before .before .before .before .before .before .before .before .before .before .args .ballot) (c .before .before .before .before .before .before .before .before .before .before .before .before .before .before .args .fast) (c .before .before .before .before .before .before .before .before .before .before .before .before .before .before .args .out .now) (sym (c .before .config .ensures) ∙ c .if1 .taken)
+    let given = c .before .before .before .before .before .before .before .before .before .before .before .before .before .before .before .args in
+    let s = stateOf (given .marks) (given .count .now) (given .pending .now) (given .proven-counts .now) (given .proven .now) (given .held-counts .now) (given .held .now) in
+    rw (c .silent .ensures) (opens-unfit (given .r) (given .own) s (given .ballot) (given .fast) (given .out .now) (sym (c .before .before .config .ensures) ∙ c .before .if1 .taken))
 
 may-open-requires : tie.Need-may-open-requires
 may-open-requires c κs = search needs
 
+silent-requires-2 : tie.Need-silent-requires-2
+silent-requires-2 c κs = search needs
+
 returns-2 : tie.Need-returns-2
 returns-2 c =
-    opens-stale (c .before .before .before .before .before .before .before .before .before .before .before .before .before .before .before .before .args .r) (c .before .before .before .before .before .before .before .before .before .before .before .before .before .before .before .before .args .own) (stateOf (c .before .before .before .before .before .before .before .before .before .before .before .before .before .before .before .before .args .marks) (c .before .before .before .before .before .before .before .before .before .before .before .before .before .before .before .before .args .count .now) (c .before .before .before .before .before .before .before .before .before .before .before .before .before .before .before .before .args .pending .now) (c .before .before .before .before .before .before .before .before .before .before .before .before .before .before .before .before .args .pcounts .now) (c .before .before .before .before .before .before .before .before .before .before .before .before .before .before .before .before .args .proven .now) (c .before .before .before .before .before .before .before .before .before .before .before .before .before .before .before .before .args .hcounts .now) (c .before .before .before .before .before .before .before .before .before .before .before .before .before .before .before .before .args .held .now)) (c .before .before .before .before .before .before .before .before .before .before .before .before .before .before .before .before .args .ballot) (c .before .before .before .before .before .before .before .before .before .before .before .before .before .before .before .before .args .fast) (c .before .before .before .before .before .before .before .before .before .before .before .before .before .before .before .before .args .out .now) (sym (c .before .before .before .config .ensures) ∙ c .before .before .if1 .left) (sym (c .before .may-open .ensures) ∙ not-true _ (c .if2 .taken))
+    let given = c .before .before .before .before .before .before .before .before .before .before .before .before .before .before .before .before .before .args in
+    let s = stateOf (given .marks) (given .count .now) (given .pending .now) (given .proven-counts .now) (given .proven .now) (given .held-counts .now) (given .held .now) in
+    rw (c .silent2 .ensures) (opens-stale (given .r) (given .own) s (given .ballot) (given .fast) (given .out .now) (sym (c .before .before .before .before .config .ensures) ∙ c .before .before .before .if1 .left) (sym (c .before .before .may-open .ensures) ∙ not-true _ (c .before .if2 .taken)))
 
 invite-requires : tie.Need-invite-requires
 invite-requires c κs = search needs
+
+forget-requires : tie.Need-forget-requires
+forget-requires c κs = search needs
 
 opened-requires : tie.Need-opened-requires
 opened-requires c κs = search needs
@@ -33,19 +45,23 @@ same-length : tie.Need-same-length
 same-length c = search needs
 
 returns-3 : tie.Need-returns-3
-unfolding emptyTable
 returns-3 c =
-    opens (c .before .before .before .before .before .before .before .before .before .before .before .before .before .before .before .before .before .before .before .before .before .before .before .before .before .args .r) (c .before .before .before .before .before .before .before .before .before .before .before .before .before .before .before .before .before .before .before .before .before .before .before .before .before .args .own) (stateOf (c .before .before .before .before .before .before .before .before .before .before .before .before .before .before .before .before .before .before .before .before .before .before .before .before .before .args .marks) (c .before .before .before .before .before .before .before .before .before .before .before .before .before .before .before .before .before .before .before .before .before .before .before .before .before .args .count .now) (c .before .before .before .before .before .before .before .before .before .before .before .before .before .before .before .before .before .before .before .before .before .before .before .before .before .args .pending .now) (c .before .before .before .before .before .before .before .before .before .before .before .before .before .before .before .before .before .before .before .before .before .before .before .before .before .args .pcounts .now) (c .before .before .before .before .before .before .before .before .before .before .before .before .before .before .before .before .before .before .before .before .before .before .before .before .before .args .proven .now) (c .before .before .before .before .before .before .before .before .before .before .before .before .before .before .before .before .before .before .before .before .before .before .before .before .before .args .hcounts .now) (c .before .before .before .before .before .before .before .before .before .before .before .before .before .before .before .before .before .before .before .before .before .before .before .before .before .args .held .now)) (c .before .before .before .before .before .before .before .before .before .before .before .before .before .before .before .before .before .before .before .before .before .before .before .before .before .args .ballot) (c .before .before .before .before .before .before .before .before .before .before .before .before .before .before .before .before .before .before .before .before .before .before .before .before .before .args .fast) (c .before .before .before .before .before .before .before .before .before .before .before .before .before .before .before .before .before .before .before .before .before .before .before .before .before .args .out .now) (sym (c .before .before .before .before .before .before .before .before .before .before .before .before .config .ensures) ∙ c .before .before .before .before .before .before .before .before .before .before .before .if1 .left) (sym (c .before .before .before .before .before .before .before .before .before .before .may-open .ensures) ∙ not-false _ (c .before .before .before .before .before .before .before .before .before .if2 .left)) _ _ _ _ refl (rw (c .opened .ensures)) (c .before .before .before .before .before .before .before .invite .ensures)
+    let given = c .before .before .before .before .before .before .before .before .before .before .before .before .before .before .before .before .before .before .before .before .before .before .before .before .before .before .args in
+    let s = stateOf (given .marks) (given .count .now) (given .pending .now) (given .proven-counts .now) (given .proven .now) (given .held-counts .now) (given .held .now) in
+    opens (given .r) (given .own) s (given .ballot) (given .fast) (given .out .now) (sym (c .before .before .before .before .before .before .before .before .before .before .before .before .before .config .ensures) ∙ c .before .before .before .before .before .before .before .before .before .before .before .before .if1 .left) (sym (c .before .before .before .before .before .before .before .before .before .before .before .may-open .ensures) ∙ not-false _ (c .before .before .before .before .before .before .before .before .before .before .if2 .left)) _ _ _ _ refl (rw (c .opened .ensures, c .before .forget .ensures .0, c .before .forget .ensures .1)) (c .before .before .before .before .before .before .before .before .invite .ensures)
 
 pub open-in-place-spec : {M : Type 1} → statement M
 open-in-place-spec =
     tie.close
     (tie.spec
     config-requires
+    silent-requires
     returns
     may-open-requires
+    silent-requires-2
     returns-2
     invite-requires
+    forget-requires
     opened-requires
     same-length
     returns-3)

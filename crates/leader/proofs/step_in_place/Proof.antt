@@ -7,7 +7,7 @@ use borrow.Author.Needs.{needs}
 use Rattle.frame.specs.declared.Reading.{Reading}
 use Rattle.frame.specs.Format.{readingWith}
 use Rattle.frame.specs.FormatLaws.{read-n}
-use Rattle.leader.specs.Parts.{stateOf, listOf, frameOf}
+use Rattle.leader.specs.Parts.{historyOf, stateOf}
 use Rattle.leader.proofs.Calls.{reports, settles, steps}
 use Rattle.leader.proofs.step_in_place.Statement.{statement}
 use Rattle.leader.proofs.step_in_place.Tie as tie
@@ -15,15 +15,12 @@ use Rattle.leader.proofs.step_in_place.Tie as tie
 read-into-requires : tie.Need-read-into-requires
 read-into-requires c κs = search needs
 
-of-requires : tie.Need-of-requires
-of-requires c κs = search needs
-
 list-requires : tie.Need-list-requires
 list-requires c κs = search needs
 
 check-requires : tie.Need-check-requires
 check-requires c κs =
-    (omega arith, rw (c .before .before .before .before .before .before .before .before .before .before .before .before .before .of .ensures, ap (λ (o : Reading). o .frame .n) (c .before .before .before .before .before .before .before .before .before .before .before .before .before .before .read-into .ensures)) (read-n (c .before .before .before .before .before .before .before .before .before .before .before .before .before .before .before .before .before .before .args .line .now) 1048))
+    (omega arith, rw (ap (λ (o : Reading). o .frame .n) (c .before .before .before .before .before .before .before .before .before .before .before .before .before .read-into .ensures)) (read-n (c .before .before .before .before .before .before .before .before .before .before .before .before .before .before .before .before .before .args .line .now) 1048))
 
 accepts-requires : tie.Need-accepts-requires
 accepts-requires c κs = search needs
@@ -36,23 +33,28 @@ same-length c = search needs
 
 returns : tie.Need-returns
 returns c =
-    steps (c .before .before .before .before .before .before .before .before .before .before .before .before .before .before .before .before .before .before .before .before .before .before .before .before .before .before .before .before .before .before .before .before .args .r) (c .before .before .before .before .before .before .before .before .before .before .before .before .before .before .before .before .before .before .before .before .before .before .before .before .before .before .before .before .before .before .before .before .args .own) (stateOf (c .before .before .before .before .before .before .before .before .before .before .before .before .before .before .before .before .before .before .before .before .before .before .before .before .before .before .before .before .before .before .before .before .args .marks) (c .before .before .before .before .before .before .before .before .before .before .before .before .before .before .before .before .before .before .before .before .before .before .before .before .before .before .before .before .before .before .before .before .args .count .now) (c .before .before .before .before .before .before .before .before .before .before .before .before .before .before .before .before .before .before .before .before .before .before .before .before .before .before .before .before .before .before .before .before .args .pending .now) (c .before .before .before .before .before .before .before .before .before .before .before .before .before .before .before .before .before .before .before .before .before .before .before .before .before .before .before .before .before .before .before .before .args .pcounts .now) (c .before .before .before .before .before .before .before .before .before .before .before .before .before .before .before .before .before .before .before .before .before .before .before .before .before .before .before .before .before .before .before .before .args .proven .now) (c .before .before .before .before .before .before .before .before .before .before .before .before .before .before .before .before .before .before .before .before .before .before .before .before .before .before .before .before .before .before .before .before .args .hcounts .now) (c .before .before .before .before .before .before .before .before .before .before .before .before .before .before .before .before .before .before .before .before .before .before .before .before .before .before .before .before .before .before .before .before .args .held .now)) (c .before .before .before .before .before .before .before .before .before .before .before .before .before .before .before .before .before .before .before .before .before .before .before .before .before .before .before .before .before .before .before .before .args .line .now) (c .before .before .before .before .before .before .before .before .before .before .before .before .before .before .before .before .before .before .before .before .before .before .before .before .before .before .before .before .before .before .before .before .args .out .now) (readingWith (c .before .before .before .before .before .before .before .before .before .before .before .before .before .before .before .before .before .before .before .before .before .before .before .before .before .before .before .before .read-into .result) (now (c .before .before .before .before .before .before .before .before .before .before .before .before .before .before .before .before .before .before .before .before .before .before .before .before .before .list .result))) (c .before .before .before .before .before .before .before .before .before .before .before .before .before .before .before .before .before .before .before .before .before .before .before .before .before .before .before .of .result) (c .before .before .before .before .before .before .before .before .before .before .before .before .before .check .result) _ _ (ap (readingWith (c .before .before .before .before .before .before .before .before .before .before .before .before .before .before .before .before .before .before .before .before .before .before .before .before .before .before .before .before .read-into .result)) (c .before .before .before .before .before .before .before .before .before .before .before .before .before .before .before .before .before .before .before .before .before .before .before .before .before .list .ensures) ∙ c .before .before .before .before .before .before .before .before .before .before .before .before .before .before .before .before .before .before .before .before .before .before .before .before .before .before .before .before .read-into .ensures) (c .before .before .before .before .before .before .before .before .before .before .before .before .before .before .before .before .before .before .before .before .before .before .before .before .before .before .before .of .ensures) (c .before .before .before .before .before .before .before .before .before .before .before .before .before .check .ensures)
-    (reports (c .before .before .before .before .before .before .before .before .before .before .before .before .before .before .before .before .before .before .before .before .before .before .before .before .before .before .before .before .before .before .before .before .args .r) (c .before .before .before .before .before .before .before .before .before .before .before .before .before .before .before .before .before .before .before .before .before .before .before .before .before .before .before .before .before .before .before .before .args .own) (stateOf (c .before .before .before .before .before .before .before .before .before .before .before .before .before .before .before .before .before .before .before .before .before .before .before .before .before .before .before .before .before .before .before .before .args .marks) (c .before .before .before .before .before .before .before .before .before .before .before .before .before .before .before .before .before .before .before .before .before .before .before .before .before .before .before .before .before .before .before .before .args .count .now) (c .before .before .before .before .before .before .before .before .before .before .before .before .before .before .before .before .before .before .before .before .before .before .before .before .before .before .before .before .before .before .before .before .args .pending .now) (c .before .before .before .before .before .before .before .before .before .before .before .before .before .before .before .before .before .before .before .before .before .before .before .before .before .before .before .before .before .before .before .before .args .pcounts .now) (c .before .before .before .before .before .before .before .before .before .before .before .before .before .before .before .before .before .before .before .before .before .before .before .before .before .before .before .before .before .before .before .before .args .proven .now) (c .before .before .before .before .before .before .before .before .before .before .before .before .before .before .before .before .before .before .before .before .before .before .before .before .before .before .before .before .before .before .before .before .args .hcounts .now) (c .before .before .before .before .before .before .before .before .before .before .before .before .before .before .before .before .before .before .before .before .before .before .before .before .before .before .before .before .before .before .before .before .args .held .now)) (frameOf (c .before .before .before .before .before .before .before .before .before .before .before .before .before .before .before .before .before .before .before .before .before .before .before .before .before .before .before .of .result) (now (c .before .before .before .before .before .before .before .before .before .before .before .before .before .before .before .before .before .before .before .before .before .before .before .before .before .list .result))) (c .before .before .before .before .before .before .before .before .before .before .before .before .before .before .before .before .before .before .before .before .before .before .before .before .before .before .before .before .before .before .before .before .args .out .now) (c .before .before .before .before .before .before .before .before .before .before .before .before .before .check .result) (c .before .before .before .before .before .before .before .before .before .before .before .before .accepts .result) (c .before .before .before .before .before .before .before .before .before .before .before .before .accepts .ensures) (c .before .before .before .before .before .before .before .before .before .before .if1 .taken) _ _ (c .before .before .collect .ensures))
+    let given = c .before .before .before .before .before .before .before .before .before .before .before .before .before .before .before .before .before .before .before .before .before .before .before .before .before .before .before .before .before .before .before .args in
+    let s = stateOf (given .marks) (given .count .now) (given .pending .now) (given .proven-counts .now) (given .proven .now) (given .held-counts .now) (given .held .now) in
+    let d = readingWith (c .before .before .before .before .before .before .before .before .before .before .before .before .before .before .before .before .before .before .before .before .before .before .before .before .before .before .before .read-into .result) (now (c .before .before .before .before .before .before .before .before .before .before .before .before .before .before .before .before .before .before .before .before .before .before .before .before .before .list .result)) in
+    steps (given .r) (given .own) s (given .line .now) (given .out .now) d (c .before .before .before .before .before .before .before .before .before .before .before .before .before .check .result) _ _ (ap (readingWith (c .before .before .before .before .before .before .before .before .before .before .before .before .before .before .before .before .before .before .before .before .before .before .before .before .before .before .before .read-into .result)) (c .before .before .before .before .before .before .before .before .before .before .before .before .before .before .before .before .before .before .before .before .before .before .before .before .before .list .ensures) ∙ c .before .before .before .before .before .before .before .before .before .before .before .before .before .before .before .before .before .before .before .before .before .before .before .before .before .before .before .read-into .ensures) (c .before .before .before .before .before .before .before .before .before .before .before .before .before .check .ensures)
+    (reports (given .r) (given .own) s (d .frame) (given .out .now) (c .before .before .before .before .before .before .before .before .before .before .before .before .before .check .result) (c .before .before .before .before .before .before .before .before .before .before .before .before .accepts .result) (c .before .before .before .before .before .before .before .before .before .before .before .before .accepts .ensures) (c .before .before .before .before .before .before .before .before .before .before .if1 .taken) _ _ (c .before .before .collect .ensures))
 
 settle-requires : tie.Need-settle-requires
 settle-requires c κs = search needs
 
 returns-2 : tie.Need-returns-2
 returns-2 c =
-    steps (c .before .before .before .before .before .before .before .before .before .before .before .before .before .before .before .before .before .before .before .before .before .before .before .before .before .args .r) (c .before .before .before .before .before .before .before .before .before .before .before .before .before .before .before .before .before .before .before .before .before .before .before .before .before .args .own) (stateOf (c .before .before .before .before .before .before .before .before .before .before .before .before .before .before .before .before .before .before .before .before .before .before .before .before .before .args .marks) (c .before .before .before .before .before .before .before .before .before .before .before .before .before .before .before .before .before .before .before .before .before .before .before .before .before .args .count .now) (c .before .before .before .before .before .before .before .before .before .before .before .before .before .before .before .before .before .before .before .before .before .before .before .before .before .args .pending .now) (c .before .before .before .before .before .before .before .before .before .before .before .before .before .before .before .before .before .before .before .before .before .before .before .before .before .args .pcounts .now) (c .before .before .before .before .before .before .before .before .before .before .before .before .before .before .before .before .before .before .before .before .before .before .before .before .before .args .proven .now) (c .before .before .before .before .before .before .before .before .before .before .before .before .before .before .before .before .before .before .before .before .before .before .before .before .before .args .hcounts .now) (c .before .before .before .before .before .before .before .before .before .before .before .before .before .before .before .before .before .before .before .before .before .before .before .before .before .args .held .now)) (c .before .before .before .before .before .before .before .before .before .before .before .before .before .before .before .before .before .before .before .before .before .before .before .before .before .args .line .now) (c .before .before .before .before .before .before .before .before .before .before .before .before .before .before .before .before .before .before .before .before .before .before .before .before .before .args .out .now) (readingWith (c .before .before .before .before .before .before .before .before .before .before .before .before .before .before .before .before .before .before .before .before .before .read-into .result) (now (c .before .before .before .before .before .before .before .before .before .before .before .before .before .before .before .before .before .before .list .result))) (c .before .before .before .before .before .before .before .before .before .before .before .before .before .before .before .before .before .before .before .before .of .result) (c .before .before .before .before .before .before .check .result) _ _ (ap (readingWith (c .before .before .before .before .before .before .before .before .before .before .before .before .before .before .before .before .before .before .before .before .before .read-into .result)) (c .before .before .before .before .before .before .before .before .before .before .before .before .before .before .before .before .before .before .list .ensures) ∙ c .before .before .before .before .before .before .before .before .before .before .before .before .before .before .before .before .before .before .before .before .before .read-into .ensures) (c .before .before .before .before .before .before .before .before .before .before .before .before .before .before .before .before .before .before .before .before .of .ensures) (c .before .before .before .before .before .before .check .ensures)
-    (settles (c .before .before .before .before .before .before .before .before .before .before .before .before .before .before .before .before .before .before .before .before .before .before .before .before .before .args .r) (c .before .before .before .before .before .before .before .before .before .before .before .before .before .before .before .before .before .before .before .before .before .before .before .before .before .args .own) (stateOf (c .before .before .before .before .before .before .before .before .before .before .before .before .before .before .before .before .before .before .before .before .before .before .before .before .before .args .marks) (c .before .before .before .before .before .before .before .before .before .before .before .before .before .before .before .before .before .before .before .before .before .before .before .before .before .args .count .now) (c .before .before .before .before .before .before .before .before .before .before .before .before .before .before .before .before .before .before .before .before .before .before .before .before .before .args .pending .now) (c .before .before .before .before .before .before .before .before .before .before .before .before .before .before .before .before .before .before .before .before .before .before .before .before .before .args .pcounts .now) (c .before .before .before .before .before .before .before .before .before .before .before .before .before .before .before .before .before .before .before .before .before .before .before .before .before .args .proven .now) (c .before .before .before .before .before .before .before .before .before .before .before .before .before .before .before .before .before .before .before .before .before .before .before .before .before .args .hcounts .now) (c .before .before .before .before .before .before .before .before .before .before .before .before .before .before .before .before .before .before .before .before .before .before .before .before .before .args .held .now)) (frameOf (c .before .before .before .before .before .before .before .before .before .before .before .before .before .before .before .before .before .before .before .before .of .result) (now (c .before .before .before .before .before .before .before .before .before .before .before .before .before .before .before .before .before .before .list .result))) (c .before .before .before .before .before .before .before .before .before .before .before .before .before .before .before .before .before .before .before .before .before .before .before .before .before .args .out .now) (c .before .before .before .before .before .before .check .result) (c .before .before .before .before .before .accepts .result) (c .before .before .before .before .before .accepts .ensures) (c .before .before .before .if1 .left) (c .settle .result) (listOf (c .settle .last .1 .1 .1 .1 .0) (c .settle .last .1 .1 .1 .1 .1 .0)) (c .settle .ensures))
+    let given = c .before .before .before .before .before .before .before .before .before .before .before .before .before .before .before .before .before .before .before .before .before .before .before .before .args in
+    let s = stateOf (given .marks) (given .count .now) (given .pending .now) (given .proven-counts .now) (given .proven .now) (given .held-counts .now) (given .held .now) in
+    let d = readingWith (c .before .before .before .before .before .before .before .before .before .before .before .before .before .before .before .before .before .before .before .before .read-into .result) (now (c .before .before .before .before .before .before .before .before .before .before .before .before .before .before .before .before .before .before .list .result)) in
+    steps (given .r) (given .own) s (given .line .now) (given .out .now) d (c .before .before .before .before .before .before .check .result) _ _ (ap (readingWith (c .before .before .before .before .before .before .before .before .before .before .before .before .before .before .before .before .before .before .before .before .read-into .result)) (c .before .before .before .before .before .before .before .before .before .before .before .before .before .before .before .before .before .before .list .ensures) ∙ c .before .before .before .before .before .before .before .before .before .before .before .before .before .before .before .before .before .before .before .before .read-into .ensures) (c .before .before .before .before .before .before .check .ensures)
+    (settles (given .r) (given .own) s (d .frame) (given .out .now) (c .before .before .before .before .before .before .check .result) (c .before .before .before .before .before .accepts .result) (c .before .before .before .before .before .accepts .ensures) (c .before .before .before .if1 .left) (c .settle .result) (historyOf (c .settle .last .1 .1 .1 .1 .0) (c .settle .last .1 .1 .1 .1 .1 .0)) (c .settle .ensures))
 
 pub step-in-place-spec : {M : Type 1} → statement M
 step-in-place-spec =
     tie.close
     (tie.spec
     read-into-requires
-    of-requires
     list-requires
     check-requires
     accepts-requires

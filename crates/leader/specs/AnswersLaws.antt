@@ -1,4 +1,4 @@
--- What is computed by parts is what the definitions say of the line.
+-- What the code computes is what the definitions say of the line.
 use mathlib.Core.Path.{_≡_, refl, ap, _∙_}
 use mathlib.Core.Bool.{Bool, true, false}
 use mathlib.Core.List.{List, [], _∷_}
@@ -12,11 +12,11 @@ use Rattle.refusal.specs.RulesLaws.{judged-map}
 use Rattle.frame.specs.Format.{readingOf, malformed}
 use Rattle.leader.specs.declared.State.{State}
 use Rattle.leader.specs.Leader.{kindOf, taken, received, marksOf, pendingOf, config, form, frameRules, rules, step}
-use Rattle.leader.specs.Parts.{answer, answerTo, answerIn, settled}
+use Rattle.leader.specs.Answers.{answer, answerTo, answerIn, settled}
 
 module _ (r : Roster) (own room : ℕ) (s : State) (line : List ℕ) where
   -- the answer to a line is that of all rules
-  answer-is : answerIn r own room s (readingOf line taken .found) (received line) ≡ answer (rules r own room s line)
+  answer-is : answerIn r own room s (readingOf line taken) ≡ answer (rules r own room s line)
   unfolding answerIn answerTo malformed judged
   answer-is = go (config r own room s) (form line)
     where
@@ -28,7 +28,7 @@ module _ (r : Roster) (own room : ℕ) (s : State) (line : List ℕ) where
       go false false = refl
 
   -- and what that answer does is the step
-  pub settled-step : settled r own s (answerIn r own room s (readingOf line taken .found) (received line)) (received line) ≡ step r own room s line
+  pub settled-step : settled r own s (answerIn r own room s (readingOf line taken)) (received line) ≡ step r own room s line
   unfolding step settled
   settled-step =
       ap (λ (a : Answer). settled r own s a (received line)) answer-is
