@@ -34,7 +34,7 @@ use Rattle.frame.specs.declared.Reading.{Reading}
 use Rattle.frame.specs.Layout.{first, second}
 use Rattle.frame.specs.Format.{readingOf, frameWith}
 use Rattle.site.specs.Message.{message}
-use Rattle.site.specs.Reply.{Reply, sendsIf, lengthSent, buffer}
+use Rattle.site.specs.Reply.{Reply, sendsIf}
 use Rattle.leader.specs.declared.State.{State}
 use Rattle.leader.specs.declared.Marks.{Marks}
 use Rattle.leader.specs.declared.Settled.{Settled}

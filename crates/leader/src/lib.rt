@@ -79,7 +79,7 @@ const P2A: u8 = 5;
 const TAKEN: u16 = 1048;
 
 // Whether pending commands may be lent: at most 32, valid, no proposer and serial twice. Their order is free.
-fn pending_valid(count: u8, words: &[u64]) -> bool
+fn pending_valid(count: u8, words: &[u64; 32]) -> bool
     ensures { λ b. ⌜ b ≡ spec.validPending (parts.historyOf count (now (words .entry))) ⌝ }
 {
     let n = count as usize;
@@ -98,11 +98,11 @@ fn config<'a>(
     room: usize,
     marks: Marks,
     count: u8,
-    pending: &'a [u64],
-    proven_counts: &'a [u8],
-    proven: &'a [u64],
-    held_counts: &'a [u8],
-    held: &'a [u64],
+    pending: &'a [u64; 32],
+    proven_counts: &'a [u8; 16],
+    proven: &'a [u64; 512],
+    held_counts: &'a [u8; 16],
+    held: &'a [u64; 512],
 ) -> bool
     ensures { λ b. ⌜ b ≡ spec.config r own room (parts.stateOf marks count (now (pending .entry)) (now («proven_counts» .entry)) (now (proven .entry)) (now («held_counts» .entry)) (now (held .entry))) ⌝ }
 {
@@ -274,7 +274,7 @@ fn judge<'a>(
     marks: Marks,
     pending: &'a [u64],
     f: Heading,
-    words: &'a [u64],
+    words: &'a [u64; 64],
 ) -> Answer
     requires { ⌜ answers.Short (now pending) (frameWith f (now words)) ⌝ }
     ensures { λ a. ⌜ a ≡ answers.answerTo r own marks (now (pending .entry)) (frameWith f (now (words .entry))) ⌝ }
@@ -297,15 +297,15 @@ fn check<'a>(
     room: usize,
     marks: Marks,
     count: u8,
-    pending: &'a [u64],
-    proven_counts: &'a [u8],
-    proven: &'a [u64],
-    held_counts: &'a [u8],
-    held: &'a [u64],
+    pending: &'a [u64; 32],
+    proven_counts: &'a [u8; 16],
+    proven: &'a [u64; 512],
+    held_counts: &'a [u8; 16],
+    held: &'a [u64; 512],
     f: Heading,
-    words: &'a [u64],
+    words: &'a [u64; 64],
 ) -> Answer
-    requires { ⌜ (length (now pending) ≤ 32) × (f .n ≤ 32) ⌝ }
+    requires { ⌜ f .n ≤ 32 ⌝ }
     ensures { λ a. ⌜ a ≡ answers.answerIn r own room (parts.stateOf marks count (now (pending .entry)) (now («proven_counts» .entry)) (now (proven .entry)) (now («held_counts» .entry)) (now (held .entry))) (readingWith f (now (words .entry))) ⌝ }
 {
     let unfit = config(
@@ -459,7 +459,7 @@ fn collect(
     own: u8,
     marks: Marks,
     f: Heading,
-    words: &[u64],
+    words: &[u64; 64],
     count: &mut u8,
     pending: &mut [u64; 32],
     proven_counts: &mut [u8; 16],
@@ -495,7 +495,7 @@ fn settle(
     marks: Marks,
     answer: Answer,
     f: Heading,
-    words: &[u64],
+    words: &[u64; 64],
     count: &mut u8,
     pending: &mut [u64; 32],
 ) -> Settled
@@ -521,13 +521,6 @@ fn settle(
     silent(now, answer)
 }
 
-// A frame's words as a list.
-fn list<'a>(words: &'a [u64; 64]) -> &'a [u64]
-    ensures { λ l. ⌜ now l ≡ now (words .entry) ⌝ }
-{
-    words
-}
-
 // One step in place, on the parts of a leader's state: the answer to a line, how much of the buffer is to be sent, and the marks after it; the parts are
 // left as those of the state after it. Any line is answered, whatever the parts hold.
 pub fn step_in_place(
@@ -547,7 +540,7 @@ pub fn step_in_place(
 {
     let mut read = [0u64; 64];
     let f = frame::read_into(line, TAKEN, &mut read);
-    let words = list(&read);
+    let words = &read;
     let room = out.len();
     let answer = check(
         r,

@@ -9,13 +9,12 @@ use native.Mathlib.Omega.{arith}
 use borrow.Author.Tests.{leb-true, leb-false, le-leb, ltb-true, ltb-false, eqb-true, eqb-false, not-true, not-false}
 use lib.Dec.{leb, ltb, eqb}
 use lib.ListN.{length, length-take}
-use lib.Pow.{pow-pos}
 use Rattle.roster.specs.declared.Roster.{Roster}
 use Rattle.roster.specs.declared.Ballot.{Ballot}
 use Rattle.roster.specs.Roster.{quorum, leaderOf}
 use Rattle.roster.specs.RosterLaws.{valid-figures}
 use Rattle.roster.specs.Mask.{bit, reaches, beyond}
-use Rattle.roster.specs.MaskLaws.{beyond-false, inside-bit, with-bit-same, with-bit-other, with-keeps, with-inside}
+use Rattle.roster.specs.MaskLaws.{with-bit-same, with-bit-other, with-keeps, with-inside}
 use Rattle.roster.specs.SitesLaws.{and-left, and-right}
 use Rattle.command.specs.Command.{allValid, wrong, allBy}
 use Rattle.command.specs.CommandLaws.{right-commands}
@@ -36,7 +35,6 @@ use Rattle.proposal.specs.Proposal.{report, longestTo, remaining}
 use Rattle.proposal.specs.ProposalLaws.{
   Longest,
   report-marked,
-  report-unmarked,
   report-keeps,
   longest-is,
   longest-short,
@@ -432,11 +430,6 @@ module _ {r : Roster} {own room : ℕ} {s : State} {line : List ℕ} (a : Report
   pub report-held : Sized (s .held)
       → reportIn (reporting s (received line)) (reporting s (received line) .held) (received line .sender) ≡ second (received line)
   report-held z = report-new s (received line) (s .held) (second (received line)) z sender-below (second-short line)
-
--- "reports are forgotten": in a ballot just opened, no site's is there
-pub report-none : (s : State) (ballot : Ballot) (fast : ℕ) (t : Table) (i : ℕ) → reportIn (inBallot (s .view) ballot fast (s .pending)) t i ≡ []
-report-none s ballot fast t i =
-    report-unmarked (t .words) (t .counts) 0 i (inside-bit 0 0 (beyond-false 0 0 .1 (pow-pos 0)) i (omega arith))
 
 -- ---- the proposal
 

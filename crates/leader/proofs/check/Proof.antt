@@ -28,7 +28,7 @@ unfolding judged answerIn
 returns-2 c =
     let config-call = c .before .before .config in
     let if1 = c .before .if1 in
-    let given = c .before .before .before .before .before .before .before .before .before .args in
+    let given = c .before .before .before .args in
     let if2 = c .if2 in
     rw (sym (config-call .ensures) ∙ if1 .left, not-true (given .f .found) (if2 .taken))
 
@@ -38,16 +38,16 @@ first-requires c κs = search needs
 judge-requires : tie.Need-judge-requires
 judge-requires c κs =
     let first-call = c .first in
-    let required = c .before .before .before .before .before .before .before .before .before .before .pre in
+    let required = c .before .before .before .before .before .pre in
     record { short-pending = rw (first-call .ensures, length-take) (omega arith); short = rw length-take (omega (arith, required)) }
 
 returns-3 : tie.Need-returns-3
 unfolding judged answerIn
 returns-3 c =
-    let config-call = c .before .before .before .before .config in
-    let if1 = c .before .before .before .if1 in
-    let given = c .before .before .before .before .before .before .before .before .before .before .before .args in
-    let if2 = c .before .before .if2 in
+    let config-call = c .before .before .before .before .before .config in
+    let if1 = c .before .before .before .before .if1 in
+    let given = c .before .before .before .before .before .before .args in
+    let if2 = c .before .before .before .if2 in
     let judge-call = c .judge in
     let first-call = c .before .first in
     rw (sym (config-call .ensures) ∙ if1 .left, not-false (given .f .found) (if2 .left)) (judge-call .ensures ∙ ap (λ (l : List ℕ). answerTo (given .r) (given .own) (given .marks) l (frameWith (given .f) (given .words .now))) (first-call .ensures))

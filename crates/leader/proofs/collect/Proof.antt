@@ -44,9 +44,9 @@ same-length c = search needs
 
 returns : tie.Need-returns
 returns c =
-    let given = c .before .before .before .before .before .before .before .before .before .before .before .before .before .before .before .before .before .before .before .before .before .before .before .before .before .before .before .before .args in
-    let stored = stored-report (given .marks) (given .count .now) (given .pending .now) (given .proven-counts .now) (given .proven .now) (given .held-counts .now) (given .held .now) (given .f) (given .words .now) (c .before .before .before .before .before .before .before .before .before .before .before .before .before .before .reporting .result) (now (c .before .before .before .before .before .before .before .before .before .before .before .before .before .before .before .before .before .before .before .before .first .result)) (now (c .before .before .before .before .before .before .before .before .before .before .before .before .before .before .before .before .after .result)) (c .before .before .before .before .before .before .before .before .before .before .before .before .before .before .before .before .before .before .before .store .last .1 .0) (c .before .before .before .before .before .before .before .before .before .before .before .before .before .before .before .before .before .before .before .store .last .0) (c .before .before .before .before .before .before .before .before .before .before .before .before .before .before .before .store2 .last .1 .0) (c .before .before .before .before .before .before .before .before .before .before .before .before .before .before .before .store2 .last .0) (omega (arith, c .before .before .before .before .before .before .before .before .before .before .before .before .before .before .before .before .before .before .before .before .before .store-arg2 .given)) (omega (arith, c .before .before .before .before .before .before .before .before .before .before .before .before .before .before .before .before .before .before .before .before .before .before .store-arg .given)) (omega (arith, c .before .before .before .before .before .before .before .before .before .before .before .before .before .before .before .before .before .store-arg4 .given)) (omega (arith, c .before .before .before .before .before .before .before .before .before .before .before .before .before .before .before .before .before .before .store-arg3 .given)) (c .before .before .before .before .before .before .before .before .before .before .before .before .before .before .reporting .ensures) (c .before .before .before .before .before .before .before .before .before .before .before .before .before .before .before .before .before .before .before .before .first .ensures) (c .before .before .before .before .before .before .before .before .before .before .before .before .before .before .before .before .before .before .before .store .ensures) (c .before .before .before .before .before .before .before .before .before .before .before .before .before .before .before .before .after .ensures) (c .before .before .before .before .before .before .before .before .before .before .before .before .before .before .before .store2 .ensures) in
-    subst (λ (s : State). Done (conclude (given .r) (given .own) s) (given .out .now) (outcomeOf (c .before .before .conclude .result) (c .before .before .conclude .last .1 .1 .1 .0) (c .before .before .conclude .last .1 .1 .1 .1 .0) (c .before .before .before .before .before .before .before .before .before .before .before .before .before .before .before .before .before .before .before .store .last .1 .0) (c .before .before .before .before .before .before .before .before .before .before .before .before .before .before .before .before .before .before .before .store .last .0) (c .before .before .before .before .before .before .before .before .before .before .before .before .before .before .before .store2 .last .1 .0) (c .before .before .before .before .before .before .before .before .before .before .before .before .before .before .before .store2 .last .0)) (c .before .before .conclude .last .1 .1 .1 .1 .1 .1 .1 .1 .1 .0)) stored (c .before .before .conclude .ensures)
+    let given = c .before .before .before .before .before .before .before .before .before .before .before .before .before .before .before .before .before .before .before .before .before .before .before .before .before .before .before .before .before .args in
+    let stored = stored-report (given .marks) (given .count .now) (given .pending .now) (given .proven-counts .now) (given .proven .now) (given .held-counts .now) (given .held .now) (given .f) (given .words .now) (c .before .before .before .before .before .before .before .before .before .before .before .before .before .before .reporting .result) (now (c .before .before .before .before .before .before .before .before .before .before .before .before .before .before .before .before .before .before .before .before .before .first .result)) (now (c .before .before .before .before .before .before .before .before .before .before .before .before .before .before .before .before .after .result)) (c .before .before .before .before .before .before .before .before .before .before .before .before .before .before .before .before .before .before .before .before .store .last .1 .0) (c .before .before .before .before .before .before .before .before .before .before .before .before .before .before .before .before .before .before .before .before .store .last .0) (c .before .before .before .before .before .before .before .before .before .before .before .before .before .before .before .store2 .last .1 .0) (c .before .before .before .before .before .before .before .before .before .before .before .before .before .before .before .store2 .last .0) (omega (arith, c .before .before .before .before .before .before .before .before .before .before .before .before .before .before .before .before .before .before .before .before .before .before .before .store-arg2 .given)) (omega (arith, c .before .before .before .before .before .before .before .before .before .before .before .before .before .before .before .before .before .before .before .before .before .before .before .before .store-arg .given)) (omega (arith, c .before .before .before .before .before .before .before .before .before .before .before .before .before .before .before .before .before .before .store-arg4 .given)) (omega (arith, c .before .before .before .before .before .before .before .before .before .before .before .before .before .before .before .before .before .before .before .store-arg3 .given)) (c .before .before .before .before .before .before .before .before .before .before .before .before .before .before .reporting .ensures) (c .before .before .before .before .before .before .before .before .before .before .before .before .before .before .before .before .before .before .before .before .before .first .ensures) (c .before .before .before .before .before .before .before .before .before .before .before .before .before .before .before .before .before .before .before .before .store .ensures) (c .before .before .before .before .before .before .before .before .before .before .before .before .before .before .before .before .after .ensures) (c .before .before .before .before .before .before .before .before .before .before .before .before .before .before .before .store2 .ensures) in
+    subst (λ (s : State). Done (conclude (given .r) (given .own) s) (given .out .now) (outcomeOf (c .before .before .conclude .result) (c .before .before .conclude .last .1 .1 .1 .0) (c .before .before .conclude .last .1 .1 .1 .1 .0) (c .before .before .before .before .before .before .before .before .before .before .before .before .before .before .before .before .before .before .before .before .store .last .1 .0) (c .before .before .before .before .before .before .before .before .before .before .before .before .before .before .before .before .before .before .before .before .store .last .0) (c .before .before .before .before .before .before .before .before .before .before .before .before .before .before .before .store2 .last .1 .0) (c .before .before .before .before .before .before .before .before .before .before .before .before .before .before .before .store2 .last .0)) (c .before .before .conclude .last .1 .1 .1 .1 .1 .1 .1 .1 .1 .0)) stored (c .before .before .conclude .ensures)
 
 pub collect-spec : {M : Type 1} → statement M
 collect-spec =

@@ -24,10 +24,10 @@ rows-valid-requires-2 c κs = search needs
 returns : tie.Need-returns
 unfolding config validTable
 returns c =
-    let seated-call = c .before .before .before .before .seated in
-    let pending-valid-call = c .before .before .before .pending-valid in
-    let beyond-call = c .before .before .beyond in
-    let rows-valid-call = c .before .rows-valid in
+    let seated-call = c .before .before .before .before .before .before .before .before .seated in
+    let pending-valid-call = c .before .before .before .before .before .before .before .pending-valid in
+    let beyond-call = c .before .before .before .before .before .before .beyond in
+    let rows-valid-call = c .before .before .before .rows-valid in
     let rows-valid2-call = c .rows-valid2 in
     rw (seated-call .ensures, pending-valid-call .ensures, beyond-call .ensures, rows-valid-call .ensures, rows-valid2-call .ensures)
 

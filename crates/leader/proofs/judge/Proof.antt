@@ -11,7 +11,7 @@ on-report-requires c κs = search needs
 returns : tie.Need-returns
 unfolding answerTo
 returns c =
-    let if1 = c .before .if1 in
+    let if1 = c .before .before .if1 in
     let on-report-call = c .on-report in
     rw (if1 .taken) (on-report-call .ensures)
 
@@ -21,8 +21,8 @@ on-propose-requires c κs = search needs
 returns-2 : tie.Need-returns-2
 unfolding answerTo
 returns-2 c =
-    let if1 = c .before .before .before .if1 in
-    let if2 = c .before .if2 in
+    let if1 = c .before .before .before .before .if1 in
+    let if2 = c .before .before .if2 in
     let on-propose-call = c .on-propose in
     rw (if1 .left, if2 .taken) (on-propose-call .ensures)
 

@@ -16,7 +16,7 @@ silent-requires c κs = search needs
 
 returns : tie.Need-returns
 returns c =
-    let given = c .before .before .before .before .before .before .before .before .before .before .before .before .before .before .before .args in
+    let given = c .before .before .before .before .before .before .before .before .before .before .args in
     let s = stateOf (given .marks) (given .count .now) (given .pending .now) (given .proven-counts .now) (given .proven .now) (given .held-counts .now) (given .held .now) in
     rw (c .silent .ensures) (opens-unfit (given .r) (given .own) s (given .ballot) (given .fast) (given .out .now) (sym (c .before .before .config .ensures) ∙ c .before .if1 .taken))
 
@@ -28,7 +28,7 @@ silent-requires-2 c κs = search needs
 
 returns-2 : tie.Need-returns-2
 returns-2 c =
-    let given = c .before .before .before .before .before .before .before .before .before .before .before .before .before .before .before .before .before .args in
+    let given = c .before .before .before .before .before .before .before .before .before .before .before .before .args in
     let s = stateOf (given .marks) (given .count .now) (given .pending .now) (given .proven-counts .now) (given .proven .now) (given .held-counts .now) (given .held .now) in
     rw (c .silent2 .ensures) (opens-stale (given .r) (given .own) s (given .ballot) (given .fast) (given .out .now) (sym (c .before .before .before .before .config .ensures) ∙ c .before .before .before .if1 .left) (sym (c .before .before .may-open .ensures) ∙ not-true _ (c .before .if2 .taken)))
 
@@ -46,7 +46,7 @@ same-length c = search needs
 
 returns-3 : tie.Need-returns-3
 returns-3 c =
-    let given = c .before .before .before .before .before .before .before .before .before .before .before .before .before .before .before .before .before .before .before .before .before .before .before .before .before .before .args in
+    let given = c .before .before .before .before .before .before .before .before .before .before .before .before .before .before .before .before .before .before .before .before .before .args in
     let s = stateOf (given .marks) (given .count .now) (given .pending .now) (given .proven-counts .now) (given .proven .now) (given .held-counts .now) (given .held .now) in
     opens (given .r) (given .own) s (given .ballot) (given .fast) (given .out .now) (sym (c .before .before .before .before .before .before .before .before .before .before .before .before .before .config .ensures) ∙ c .before .before .before .before .before .before .before .before .before .before .before .before .if1 .left) (sym (c .before .before .before .before .before .before .before .before .before .before .before .may-open .ensures) ∙ not-false _ (c .before .before .before .before .before .before .before .before .before .before .if2 .left)) _ _ _ _ refl (rw (c .opened .ensures, c .before .forget .ensures .0, c .before .forget .ensures .1)) (c .before .before .before .before .before .before .before .before .invite .ensures)
 

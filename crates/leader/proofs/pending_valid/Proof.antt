@@ -10,7 +10,7 @@ use Rattle.leader.proofs.pending_valid.Tie as tie
 returns : tie.Need-returns
 unfolding validPending
 returns c =
-    let given = c .before .before .args in
+    let given = c .before .args in
     let if1 = c .if1 in
     rw (not-true (leb (given .count) 32) (if1 .taken))
 
@@ -27,7 +27,7 @@ returns-2 : tie.Need-returns-2
 unfolding validPending
 returns-2 c =
     let given = c .before .before .before .before .before .args in
-    let if1 = c .before .before .before .if1 in
+    let if1 = c .before .before .before .before .if1 in
     let all-valid-call = c .before .all-valid in
     let repeated-call = c .repeated in
     let first-call = c .before .before .first in

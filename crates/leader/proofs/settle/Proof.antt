@@ -31,8 +31,8 @@ silent-requires-2 c κs = search needs
 
 returns-2 : tie.Need-returns-2
 returns-2 c =
-    let accepted = sym (c .before .before .before .before .before .before .before .before .before .accepts .ensures) ∙ not-false _ (c .before .before .before .before .before .before .before .before .if1 .left) in
-    (rw (accepted, c .before .before .before .before .before .before .if2 .taken) (c .silent2 .ensures), rw (accepted, c .before .before .before .before .before .before .if2 .taken, ← c .before .before .first .ensures) (c .before .lengthen .ensures))
+    let accepted = sym (c .before .before .before .before .before .before .before .before .before .before .accepts .ensures) ∙ not-false _ (c .before .before .before .before .before .before .before .before .before .if1 .left) in
+    (rw (accepted, c .before .before .before .before .before .before .before .if2 .taken) (c .silent2 .ensures), rw (accepted, c .before .before .before .before .before .before .before .if2 .taken, ← c .before .before .first .ensures) (c .before .lengthen .ensures))
 
 silent-requires-3 : tie.Need-silent-requires-3
 silent-requires-3 c κs = search needs
