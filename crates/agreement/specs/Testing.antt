@@ -7,10 +7,11 @@ use Prim.Native.Nat.{ℕ, _≤_, _<_}
 use borrow.Author.Tests.{leb-true, ltb-true, lt-ltb}
 use lib.Dec.{leb, ltb}
 use lib.ListN.{take}
+use Rattle.basics.specs.Bools.{and-left, and-right, or-either, implies}
 use Rattle.roster.specs.declared.Roster.{Roster}
 use Rattle.roster.specs.Roster.{validRoster, quorum}
 use Rattle.roster.specs.Sites.{countTo, allTo}
-use Rattle.roster.specs.SitesLaws.{and-left, and-right, all-each, lt-or-le}
+use Rattle.roster.specs.SitesLaws.{all-each, lt-or-le}
 use Rattle.history.specs.History.{equal}
 use Rattle.history.specs.CanonicalLaws.{equal-true}
 use Rattle.frame.specs.Format.{isLine, frameOf}
@@ -65,14 +66,6 @@ premises w k = validRoster (w .roster) && (isEnough w && (allTo k (ofLearner w) 
 
 -- ---- it is enough
 
-or-either : (a b : Bool) → (a || b) ≡ true → (a ≡ true) ⊎ (b ≡ true)
-or-either true b e = inl refl
-or-either false b e = inr e
-
-or-second : (a b : Bool) → a ≡ true → (not a || b) ≡ true → b ≡ true
-or-second true b e p = p
-or-second false b e p = absurd (false≢true e)
-
 in-mem : (line : List ℕ) (ls : List (List ℕ)) → isIn line ls ≡ true → List·Memᴰ line ls
 unfolding isIn
 in-mem line [] e = absurd (false≢true e)
@@ -112,7 +105,7 @@ authentic-sent w line i e h n =
     let b : w .honest k ≡ true = ap (w .honest) (n .sender) ∙ h .honest in
     let named : namesHonest w line ≡ true = rw (n .frame, n .kind, l, b) in
     subst (λ (x : ℕ). Sent (w .roster) x line start (w .calls x)) (n .sender)
-    (sent-is (w .roster) k line start (w .calls k) (in-mem line _ (or-second (namesHonest w line) _ named e)))
+    (sent-is (w .roster) k line start (w .calls k) (in-mem line _ (implies (namesHonest w line) _ named e)))
 
 no-member : {line : List ℕ} → List·Memᴰ line [] → ⊥
 no-member m = elim m [ ]
@@ -132,7 +125,7 @@ module _ (w : World) (k : ℕ) (others : (j : ℕ) → k ≤ j → w .learners j
   of-site : (i : ℕ) {line : List ℕ} → Honest w i → List·Memᴰ line (map handed (w .calls i)) → authentic w line ≡ true
   of-site i h m =
       let all = all-each (w .roster .n) (ofSite w) (and-right (allTo k (ofLearner w)) _ lists) i (h .member) in
-      each-authentic w (map handed (w .calls i)) (or-second (w .honest i) _ (h .honest) all) m
+      each-authentic w (map handed (w .calls i)) (implies (w .honest i) _ (h .honest) all) m
 
   handed-in : {line : List ℕ} → HandedIn w line → authentic w line ≡ true
   handed-in (to-learner j m) = of-learner j m (lt-or-le j k)

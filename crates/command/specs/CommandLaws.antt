@@ -4,14 +4,15 @@ use Prim.Native.Nat.{ℕ, zero, suc, _+_, _≤_, _<_}
 use native.Mathlib.Omega.{arith}
 use native.Mathlib.Numerals.{add-one}
 use native.Mathlib.Decide.{decLt}
-use native.Mathlib.Nat.{not-suc-le-zero, le-of-suc-le-suc}
+use native.Mathlib.Nat.{not-suc-le-zero}
 use mathlib.Core.Bool.{Bool, true, false, not, _&&_, Bool·beq, and-comm, and-false, or-false}
-use mathlib.Core.Path.{_≡_, refl, sym, ap, subst, _∙_}
+use mathlib.Core.Path.{_≡_, refl, sym, ap, _∙_}
 use mathlib.Core.List.{List, []}
-use lib.Dec.{T, eqb, leb, eqb·zero-suc, eqb·suc-zero, eqb·suc-suc}
+use lib.Dec.{eqb, leb, eqb·zero-suc, eqb·suc-zero, eqb·suc-suc}
 use lib.ListN.{length, getD, drop, drop-of-length-le, List·getD-eq-default}
 use lib.Seq.{drop-cons}
 use borrow.Author.Tests.{eqb-true, eq-eqb, ne-eqb, leb-true, lt-leb, not-false}
+use Rattle.basics.specs.Bools.{and-left, and-right, everyBelow, every-at, beq-true}
 use Rattle.command.specs.Command.{
   proposer,
   serial,
@@ -32,21 +33,13 @@ use Rattle.command.specs.Command.{
   allBy,
 }
 
--- Tests: equality of numbers is symmetric, and what a test of two parts tells.
+-- Equality of numbers is symmetric.
 
 eqb-sym : (a b : ℕ) → eqb a b ≡ eqb b a
 eqb-sym zero zero = refl
 eqb-sym zero (suc b) = eqb·zero-suc b ∙ sym (eqb·suc-zero b)
 eqb-sym (suc a) zero = eqb·suc-zero a ∙ sym (eqb·zero-suc a)
 eqb-sym (suc a) (suc b) = eqb·suc-suc a b ∙ eqb-sym a b ∙ sym (eqb·suc-suc b a)
-
-pub and-left : (a b : Bool) → (a && b) ≡ true → a ≡ true
-and-left true b e = refl
-and-left false b e = e
-
-pub and-right : (a b : Bool) → (a && b) ≡ true → b ≡ true
-and-right true b e = e
-and-right false b e = absurd (subst T (sym e) tt)
 
 -- The identity of a request: two commands share it when proposer and serial are equal, so it is an equivalence.
 
@@ -79,24 +72,6 @@ same-trans a b c p q =
 -- two kinds conflict unless both are RAISE; a number that is no kind conflicts with none
 unfoldable kindsRule : ℕ → ℕ → Bool
 kindsRule k l = (isKind k && isKind l) && not (eqb k raise && eqb l raise)
-
--- a test that passes at each number below n passes at one of them
-everyBelow : ℕ → (ℕ → Bool) → Bool
-everyBelow zero p = true
-everyBelow (suc n) p = p zero && everyBelow n (λ k. p (suc k))
-
-every-at : (n : ℕ) (p : ℕ → Bool) → everyBelow n p ≡ true → (k : ℕ) → k < n → p k ≡ true
-unfolding everyBelow
-every-at zero p e k h = absurd (not-suc-le-zero h)
-every-at (suc n) p e zero h = and-left (p zero) (everyBelow n (λ k. p (suc k))) e
-every-at (suc n) p e (suc k) h =
-    every-at n (λ k. p (suc k)) (and-right (p zero) (everyBelow n (λ k. p (suc k))) e) k (le-of-suc-le-suc h)
-
-beq-true : (a b : Bool) → Bool·beq a b ≡ true → a ≡ b
-beq-true true true e = refl
-beq-true true false e = sym e
-beq-true false true e = e
-beq-true false false e = refl
 
 -- the rule at one place of the table, and at a row, which is no longer than there are kinds
 atPlace : ℕ → ℕ → Bool

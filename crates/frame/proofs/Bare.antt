@@ -7,13 +7,13 @@ use mathlib.Core.List.{List, []}
 use lib.Dec.{eqb}
 use lib.ListN.{length, getD, take, drop, replicate}
 use borrow.Author.Tests.{eqb-true, eq-eqb, ne-eqb}
+use Rattle.basics.specs.Bools.{and-left, and-right}
 use Rattle.frame.specs.declared.Heading.{Heading}
 use Rattle.frame.specs.declared.Reading.{Reading}
 use Rattle.frame.specs.Hex.{allDigits, numbers}
 use Rattle.frame.specs.Layout.{count}
 use Rattle.frame.specs.Format.{commands, frameOf, nothing, readingOf, readingWith, bareReading}
 use Rattle.frame.specs.Leaves.{NumbersIn, Found, noHeading, bodyGood}
-use Rattle.frame.specs.Tests.{and-left, and-right}
 use Rattle.frame.proofs.Lines.{counted, wrong-length, no-feed, body-in, found-counted, rest-bad, rest-good}
 
 -- where there is no frame, none is read

@@ -9,6 +9,8 @@ use lib.Dec.{leb, ltb}
 use lib.ListN.{length, getD, take, drop, set, length-append, length-drop}
 use lib.Seq.{take-at, drop-at, drop-drop, set-at, take-all, length-take-le}
 use borrow.Author.Tests.{lt-ltb, lt-leb, le-leb}
+use Rattle.basics.specs.Bools.{and-both}
+use Rattle.basics.specs.Lists.{drop-next}
 use Rattle.frame.specs.declared.Frame.{Frame}
 use Rattle.frame.specs.declared.Heading.{Heading}
 use Rattle.frame.specs.Hex.{digitsOf, spell, allFit, total}
@@ -19,8 +21,6 @@ use Rattle.frame.specs.Format.{commands, lineOf, proper, allZero, fits, 
 use Rattle.frame.specs.FormatLaws.{proper-count}
 use Rattle.frame.specs.FromLaws.{listed-first, listed-second, listed-count, from-writable, from-line, from-listed, headOf, lists-are, from-parts}
 use Rattle.frame.specs.Leaves.{properHeader}
-use Rattle.frame.specs.Tests.{and-both}
-use Rattle.frame.proofs.Turns.{drop-next}
 use Rattle.frame.proofs.Runs.{commands-length, commands-total}
 
 -- ---- each value of the type fits

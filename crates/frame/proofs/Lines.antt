@@ -1,6 +1,6 @@
 -- How a line is judged, test by test, as `read_into` and `read_bare` go.
 use Prim.Native.Nat.{ℕ, zero, suc, _+_, _-_, _*_, _^_, _≤_, _<_}
-use native.Mathlib.Nat.{le-refl, sub-zero, zero-sub, suc-sub-suc}
+use native.Mathlib.Nat.{le-refl}
 use native.Mathlib.Omega.{arith}
 use mathlib.Core.Path.{_≡_, refl, sym, ap, ap₂, subst, _∙_}
 use mathlib.Core.Bool.{Bool, true, false, cond, _&&_, and-false, true≢false}
@@ -9,6 +9,8 @@ use lib.Dec.{leb, ltb, eqb, lit<}
 use lib.ListN.{length, getD, take, drop, replicate, length-drop, length-replicate}
 use lib.Seq.{take-add, length-take-le}
 use borrow.Author.Tests.{ltb-true, leb-true, eq-eqb, ne-eqb}
+use Rattle.basics.specs.Bools.{and-left, and-right}
+use Rattle.basics.specs.Lists.{drop-zeros}
 use Rattle.roster.specs.Mask.{bit}
 use Rattle.frame.specs.declared.Heading.{Heading}
 use Rattle.frame.specs.Hex.{allDigits, numbers, allFit, total}
@@ -18,7 +20,6 @@ use Rattle.frame.specs.Kinds.{uses, isKind, zeroUnless, unusedZero}
 use Rattle.frame.specs.Format.{commands, lineFeed, proper, framed, frameOf, isLine, nothing, readingOf, readingWith}
 use Rattle.frame.specs.FormatLaws.{total-commands}
 use Rattle.frame.specs.Leaves.{NumbersIn, properHeader, Fitting, Headed, Counted, Found, HeadIn, headingOf, noHeading, bodyGood, bodyReading, BodyIn}
-use Rattle.frame.specs.Tests.{and-left, and-right}
 
 -- a number that fits, among others
 fit-at : (ws xs : List ℕ) → allFit ws xs ≡ true → (k : ℕ) → k < length ws → getD xs k 0 < 256 ^ getD ws k 0
@@ -28,14 +29,8 @@ fit-at (w ∷ ws) [] e k h = absurd (true≢false (sym e))
 fit-at (w ∷ ws) (x ∷ xs) e zero h = ltb-true x (256 ^ w) (and-left (ltb x (256 ^ w)) (allFit ws xs) e)
 fit-at (w ∷ ws) (x ∷ xs) e (suc k) h = fit-at ws xs (and-right (ltb x (256 ^ w)) (allFit ws xs) e) k (omega arith)
 
-zeros : ℕ → List ℕ
+abbrev zeros : ℕ → List ℕ
 zeros n = replicate n 0
-
-drop-zeros : (k n : ℕ) → drop k (zeros n) ≡ zeros (n - k)
-unfolding zeros
-drop-zeros zero n = ap zeros (sym (sub-zero n))
-drop-zeros (suc k) zero = ap zeros (sym (zero-sub (suc k)))
-drop-zeros (suc k) (suc n) = drop-zeros k n ∙ ap zeros (sym (suc-sub-suc n k))
 
 -- the tests after the header, in the code's order
 turned : (d c s : Bool) → (((d && c) && (s && true)) && true) ≡ (s && (c && d))
@@ -146,7 +141,7 @@ module _ (l : List ℕ) (inv : Headed l) where
         -- the commands as they are read, into k words of 64
         module _ (k : ℕ) (e : k ≡ n + m) (good : Bool) (ys : List ℕ) (r : NumbersIn (commands k) (take (36 + 16 * (n + m) - 36) (drop 36 l)) good ys) where
           words-are : good ≡ true → ys ++ drop (n + m) (zeros 64) ≡ frameOf l .words
-          unfolding frameOf framed zeros total
+          unfolding frameOf framed total
           words-are g =
               let same : k ≡ count (frameOf l) = e ∙ sym counted in
               let read : ys ≡ numbers (commands (count (frameOf l))) (drop 36 l) =
@@ -157,7 +152,6 @@ module _ (l : List ℕ) (inv : Headed l) where
               ap₂ (λ (s t : List ℕ). s ++ t) read (drop-zeros (n + m) 64 ∙ ap zeros left)
 
           pub body-in : {ws : List ℕ} → ws ≡ replicate 64 0 → BodyIn l good (ys ++ drop (n + m) ws)
-          unfolding zeros
           body-in z = record { is = r .all ∙ sym good-is; words = λ g. ap (λ (t : List ℕ). ys ++ drop (n + m) t) z ∙ words-are g }
 
 -- where a test fails, it is not good

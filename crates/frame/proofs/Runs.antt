@@ -9,6 +9,8 @@ use lib.Dec.{leb}
 use lib.ListN.{length, getD, take, drop, set, length-set, length-replicate, getD-replicate, length-append, length-drop, drop-of-length-le, take-append-drop}
 use lib.Seq.{take-suc-set, take-all, take-at, drop-drop, length-take-le, append-snoc}
 use borrow.Author.Tests.{leb-true}
+use Rattle.basics.specs.Bools.{every-at, everyBelow}
+use Rattle.basics.specs.Lists.{drop-next}
 use Rattle.frame.specs.declared.Spelled.{Spelled}
 use Rattle.frame.specs.Hex.{allDigits, number, digitsOf, spell, numbers, total}
 use Rattle.frame.specs.HexLaws.{all-append, length-digits}
@@ -16,8 +18,6 @@ use Rattle.frame.specs.Layout.{widths, commandWidth}
 use Rattle.frame.specs.Format.{commands}
 use Rattle.frame.specs.FormatLaws.{total-commands}
 use Rattle.frame.specs.Leaves.{numberIn, NumbersIn}
-use Rattle.frame.specs.Tests.{everyBelow, every-at}
-use Rattle.frame.proofs.Turns.{drop-next}
 
 -- each field has eight bytes at most
 width-test : ℕ → Bool

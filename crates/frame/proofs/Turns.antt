@@ -10,17 +10,14 @@ use lib.Dec.{leb, ltb, eqb}
 use lib.ListN.{length, getD, drop, set, length-set, drop-of-length-le}
 use lib.Seq.{drop-cons, drop-set-add}
 use borrow.Author.Tests.{eqb-true, ltb-true, lt-ltb, ne-eqb, eq-eqb}
+use Rattle.basics.specs.Lists.{drop-next}
+use Rattle.basics.specs.Bools.{and-left, and-right, every-at, everyBelow}
 use Rattle.frame.specs.declared.Spelled.{Spelled}
 use Rattle.frame.specs.Hex.{digit, isDigit, valueOf, allDigits, byteOf, numberFrom, number, digitsOf}
 use Rattle.frame.specs.HexLaws.{value-lt}
 use Rattle.frame.specs.Kinds.{uses, isKind, zeroUnless}
 use Rattle.frame.specs.Format.{allZero}
 use Rattle.frame.specs.Leaves.{fullStop, digitIn, numberIn, properHeader}
-use Rattle.frame.specs.Tests.{and-left, and-right, everyBelow, every-at}
-
--- what is left of a list at i is its element there and what is left after it
-pub drop-next : (l : List ℕ) (i : ℕ) → i < length l → drop i l ≡ getD l i 0 ∷ drop (i + 1) l
-drop-next l i h = rw (add-one) (drop-cons l i 0 h)
 
 -- ---- words that are all 0
 

@@ -2,18 +2,18 @@
 use Prim.Native.Nat.{ℕ, zero, suc, _<_}
 use native.Mathlib.Omega.{arith}
 use mathlib.Core.Path.{_≡_, refl, sym, ap, _∙_}
-use mathlib.Core.Bool.{Bool, true, false, not, cond, _&&_, _||_, true≢false, false≢true}
+use mathlib.Core.Bool.{Bool, true, false, not, cond, _&&_, _||_, true≢false}
 use mathlib.Core.List.{List, [], _∷_}
 use lib.Dec.{leb, ltb, eqb}
 use lib.ListN.{getD}
 use borrow.Author.Tests.{eqb-true, eq-eqb, ltb-true, not-true}
+use Rattle.basics.specs.Bools.{and-left, and-right, implies, everyBelow, every-at}
 use Rattle.roster.specs.Mask.{bit}
 use Rattle.frame.specs.declared.Frame.{Frame}
 use Rattle.frame.specs.Layout.{values, count}
 use Rattle.frame.specs.Kinds.{uses, isKind, zeroUnless, unusedZero}
 use Rattle.frame.specs.Format.{proper, nothing, readingOf, bareReading}
 use Rattle.frame.specs.FormatLaws.{proper-kind, proper-unused, writable-is, reading-none, found-taken, found-frame, found-writable}
-use Rattle.frame.specs.Tests.{and-left, and-right, everyBelow, every-at}
 
 -- whether a kind uses neither n nor m, the fields 6 and 7; and whether each of these kinds (kind k is bit k) does so
 unfoldable pub bareKind : ℕ → Bool
@@ -49,10 +49,6 @@ known-below : (k : ℕ) → isKind k ≡ true → k < 11
 unfolding isKind uses
 known-below k e = ltb-true k 11 (and-right (leb 1 k) (ltb k 11) e)
 
-or-right : (a b : Bool) → a ≡ true → (not a || b) ≡ true → b ≡ true
-or-right true b e f = f
-or-right false b e f = absurd (false≢true e)
-
 pub bare-reading : (l : List ℕ) (kinds : ℕ) → bareKinds kinds ≡ true → bareReading l kinds ≡ readingOf l kinds
 unfolding bareReading bareKinds
 bare-reading l kinds k = go (readingOf l kinds .found) refl
@@ -64,5 +60,5 @@ bare-reading l kinds k = go (readingOf l kinds .found) refl
         let good = writable-is f (found-writable l kinds e) .values-proper in
         let taken : bit kinds (f .kind) ≡ true = ap (λ (g : Frame). bit kinds (g .kind)) (found-frame l kinds e) ∙ found-taken l kinds e in
         let every = every-at 11 (λ i. not (bit kinds i) || bareKind i) k (f .kind) (known-below (f .kind) (proper-kind f good)) in
-        let none = bare-count f good (or-right (bit kinds (f .kind)) (bareKind (f .kind)) taken every) in
+        let none = bare-count f good (implies (bit kinds (f .kind)) (bareKind (f .kind)) taken every) in
         ap (λ (b : Bool). cond b (readingOf l kinds) nothing) (eq-eqb (count f) 0 none)

@@ -9,13 +9,13 @@ use lib.Dec.{eqb}
 use lib.ListN.{length, drop, replicate, length-append, length-drop}
 use lib.Seq.{drop-at, take-add, length-take-le}
 use borrow.Author.Tests.{eqb-true, eq-eqb}
+use Rattle.basics.specs.Bools.{and-both, and-left, and-right}
 use Rattle.frame.specs.declared.Frame.{Frame}
 use Rattle.frame.specs.declared.Heading.{Heading}
 use Rattle.frame.specs.Hex.{digitsOf, spell, allFit}
 use Rattle.frame.specs.Layout.{commandWidth, capacity, widths, values, count, first, second}
 use Rattle.frame.specs.Format.{commands, lineFeed, lineOf, proper, allZero, writable, padded, writtenLength, written, frameWith, frameFrom, listed, lengthFrom, writtenFrom}
 use Rattle.frame.specs.FormatLaws.{proper-count, is-writable, fit-append, zeros-fit, all-zeros, padded-words, spell-more}
-use Rattle.frame.specs.Tests.{and-left, and-right, and-both}
 
 -- two lists of commands spell one after the other
 spell-append : (xs ys : List ℕ) → spell (commands (length xs + length ys)) (xs ++ ys) ≡ spell (commands (length xs)) xs ++ spell (commands (length ys)) ys

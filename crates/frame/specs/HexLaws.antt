@@ -1,19 +1,20 @@
 -- Laws of digits: reading a number's digits gives the number, and writing the number that digits spell gives the digits; the same of a
 -- list of numbers with their widths.
 use Prim.Native.Nat.{ℕ, zero, suc, _+_, _-_, _*_, _/_, _%_, _^_, _≤_, _<_}
-use native.Mathlib.Nat.{sub-zero, zero-sub, suc-sub-suc, add-zero, zero-add, add-suc, suc-add, pow-suc, zero-lt-suc}
+use native.Mathlib.Nat.{add-zero, zero-add, add-suc, suc-add, pow-suc, zero-lt-suc}
 use native.Mathlib.Decide.{decLt}
 use native.Mathlib.Omega.{arith}
 use mathlib.Core.Path.{_≡_, refl, sym, ap, ap₂, subst, _∙_}
-use mathlib.Core.Bool.{Bool, true, false, not, cond, _&&_, _||_, true≢false, and-false, and-assoc}
+use mathlib.Core.Bool.{Bool, true, false, not, _&&_, _||_, true≢false, and-false, and-assoc}
 use mathlib.Core.List.{List, [], _∷_, _++_, append-nil, append-assoc}
 use lib.Dec.{leb, ltb, eqb}
 use lib.Arith.{lt-one}
 use lib.ListN.{length, take, drop, length-append, take-append-drop, length-drop}
-use lib.Seq.{take-at, drop-at, take-take, take-nil, length-take-le}
+use lib.Seq.{take-at, drop-at, take-take, length-take-le}
 use borrow.Author.Tests.{eqb-true, ltb-true, lt-ltb, lt-leb}
+use Rattle.basics.specs.Lists.{drop-take}
+use Rattle.basics.specs.Bools.{and-both, and-left, and-right, every-at, everyBelow}
 use Rattle.frame.specs.Hex.{digit, isDigit, valueOf, allDigits, byteOf, numberFrom, number, digitsOf, spell, numbers, allFit, total}
-use Rattle.frame.specs.Tests.{and-left, and-right, and-both, everyBelow, every-at}
 
 -- ---- one digit
 
@@ -238,12 +239,6 @@ length-numbers [] l = refl
 length-numbers (w ∷ ws) l = ap suc (length-numbers ws (drop (2 * w) l))
 
 -- numbers look at their own digits only
-pub drop-take : (m n : ℕ) (l : List ℕ) → drop m (take n l) ≡ take (n - m) (drop m l)
-drop-take zero n l = ap (λ (k : ℕ). take k l) (sym (sub-zero n))
-drop-take (suc m) zero l = ap (λ (k : ℕ). take k (drop (suc m) l)) (sym (zero-sub (suc m)))
-drop-take (suc m) (suc n) [] = sym (take-nil (suc n - suc m))
-drop-take (suc m) (suc n) (c ∷ l) = drop-take m n l ∙ ap (λ (k : ℕ). take k (drop m l)) (sym (suc-sub-suc n m))
-
 pub numbers-take : (ws l : List ℕ) (n : ℕ) → 2 * total ws ≤ n → numbers ws (take n l) ≡ numbers ws l
 unfolding numbers total
 numbers-take [] l n h = refl

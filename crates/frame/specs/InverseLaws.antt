@@ -1,24 +1,23 @@
 -- Reading and writing are inverse, as the contracts of `read` and `write` have them; every kind has a frame; and how much room a line takes.
 use Prim.Native.Nat.{ℕ, zero, suc, _≤_, _<_}
 use mathlib.Core.Logic.{⊎-elim}
+use Rattle.basics.specs.Bools.{and-left, and-right}
 use Rattle.roster.specs.SitesLaws.{last-or-below}
 use native.Mathlib.Omega.{arith}
 use mathlib.Core.Path.{_≡_, refl, sym, ap, _∙_, subst}
-use mathlib.Core.Bool.{Bool, true, false, cond, _&&_}
+use mathlib.Core.Bool.{Bool, true, _&&_}
 use mathlib.Core.List.{List, [], _∷_, _++_}
-use borrow.Author.Tests.{le-leb, leb-true}
+use borrow.Author.Tests.{le-leb}
 use lib.Dec.{leb, ltb, eqb}
 use lib.ListN.{length, take, drop, replicate}
 use lib.Seq.{take-at}
 use Rattle.roster.specs.Mask.{bit}
 use Rattle.frame.specs.Hex.{allFit}
 use Rattle.frame.specs.declared.Frame.{Frame}
-use Rattle.frame.specs.declared.Reading.{Reading}
 use Rattle.frame.specs.Layout.{longest, lineLength, count, capacity, withValues, header}
 use Rattle.frame.specs.Kinds.{uses, isKind, unusedZero, zeroUnless}
 use Rattle.frame.specs.Format.{proper, allZero, fits, lineOf, isLine, frameOf, writable, readingOf, hasRoom, writtenLength, written}
 use Rattle.frame.specs.FormatLaws.{frame-of-line, line-is-line, line-of-frame, frame-is-writable, length-of-line, line-at-most, reading-line}
-use Rattle.frame.specs.Tests.{and-left, and-right}
 
 -- ---- both ways round
 

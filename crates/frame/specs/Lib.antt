@@ -4,7 +4,6 @@ pub mod Layout
 pub mod Kinds
 pub mod Format
 pub mod Leaves
-pub mod Tests
 pub mod HexLaws
 pub mod FormatLaws
 pub mod BareLaws

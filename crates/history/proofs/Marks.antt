@@ -1,16 +1,17 @@
 -- One turn of the test for a repeat by marks, and what it leaves at its end.
 use mathlib.Core.Path.{_≡_, refl, sym, ap, ap₂, _∙_}
-use mathlib.Core.Bool.{Bool, true, false, _&&_, _||_, or-true, true≢false}
+use mathlib.Core.Bool.{Bool, true, false, or-true, true≢false}
 use mathlib.Core.List.{List, [], _∷_}
 use Prim.Native.Nat.{ℕ, zero, suc, _+_, _-_, _*_, _%_, _<_, _≤_}
 use native.Mathlib.Omega.{arith}
 use lib.ListN.{length, drop, getD, set, length-set}
 use lib.Seq.{getD-set-same, drop-length}
-use Rattle.command.specs.Command.{proposer, serial, sameRequest}
-use Rattle.command.specs.CommandLaws.{same-fields, and-left, and-right}
+use Rattle.basics.specs.Bools.{and-left, and-right}
+use Rattle.basics.specs.Lists.{drop-next}
+use Rattle.command.specs.Command.{sameRequest}
+use Rattle.command.specs.CommandLaws.{same-fields}
 use Rattle.history.specs.History.{present, repeated}
 use Rattle.history.specs.Marks.{mark, marked}
-use Rattle.words.specs.WordsLaws.{drop-next}
 
 -- a command whose mark is not set is not among those whose marks are
 pub unmarked-absent : (s : List Bool) (c : ℕ) (h : List ℕ) → marked s h ≡ true → getD s (mark c) false ≡ false → present c h ≡ false

@@ -1,24 +1,17 @@
 -- A part of a list rotated in place: its last element goes to the part's front, and the rest of the list stays.
-use mathlib.Core.Path.{_≡_, refl, sym, ap, _∙_, subst}
-use mathlib.Core.List.{List, [], _∷_, _++_, append-nil, append-assoc}
-use Prim.Native.Nat.{ℕ, zero, suc, _+_, _-_, _≤_, _<_}
+use mathlib.Core.Path.{_≡_, sym, ap, _∙_}
+use mathlib.Core.List.{List, [], _∷_, _++_, append-assoc}
+use Prim.Native.Nat.{ℕ, _+_, _-_, _≤_, _<_}
 use native.Mathlib.Omega.{arith}
-use native.Mathlib.Nat.{zero-add, suc-add}
-use native.Mathlib.Numerals.{add-one}
 use lib.ListN.{length, take, drop, getD, length-append, length-drop}
-use lib.Seq.{drop-drop, getD-drop, take-take, take-at, drop-at, length-take-le, append-snoc, take-nil}
+use lib.Seq.{drop-drop, getD-drop, take-at, drop-at, length-take-le, append-snoc}
+use Rattle.basics.specs.Lists.{take-next, drop-take}
 use Rattle.history.specs.Front.{rotated}
 use Rattle.history.specs.FrontLaws.{rotated-last}
-use Rattle.words.specs.WordsLaws.{take-next}
 
 -- the list after `rotate(&mut h[to..from + 1])`
 abbrev pub moved : List ℕ → ℕ → ℕ → List ℕ
 moved h to from = take to h ++ (rotated (take (from + 1 - to) (drop to h)) ++ drop (from + 1 - to) (drop to h))
-
-drop-take : (k n : ℕ) (l : List ℕ) → drop k (take (k + n) l) ≡ take n (drop k l)
-drop-take zero n l = rw zero-add
-drop-take (suc k) n [] = rw suc-add (sym (take-nil n))
-drop-take (suc k) n (c ∷ l) = rw suc-add (drop-take k n l)
 
 module _ (h : List ℕ) (to from : ℕ) (p : to ≤ from) (q : from < length h) where
   length-passed : length (take (from - to) (drop to h)) ≡ from - to
@@ -58,7 +51,7 @@ module _ (h : List ℕ) (to from : ℕ) (p : to ≤ from) (q : from < length h) 
       rw from-seam
       (take-at _ _ (from + 1) from-length
       ∙ ap (λ (l : List ℕ). take to h ++ getD h from 0 ∷ l)
-      (sym (drop-take to (from - to) h) ∙ ap (λ (n : ℕ). drop to (take n h)) back))
+      (sym (drop-take to from h)))
 
   pub moved-drop : drop (from + 1) (moved h to from) ≡ drop (from + 1) h
   moved-drop = rw from-seam (drop-at (take to h ++ getD h from 0 ∷ take (from - to) (drop to h)) _ (from + 1) from-length)

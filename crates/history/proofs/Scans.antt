@@ -1,20 +1,19 @@
 -- What one turn of each loop does to the definition that the loop computes: the loop stops, goes on with one command less, or has come to the end.
-use mathlib.Core.Path.{_≡_, refl, sym, ap, _∙_, subst}
-use mathlib.Core.Bool.{Bool, true, false, not, cond, _&&_, _||_, and-false}
-use mathlib.Core.List.{List, [], _∷_, _++_, append-nil, append-assoc}
+use mathlib.Core.Path.{_≡_, refl}
+use mathlib.Core.Bool.{true, false, cond}
+use mathlib.Core.List.{List, [], _∷_, _++_, append-nil}
 use Prim.Native.Nat.{ℕ, zero, suc, _+_, _-_, _≤_, _<_}
 use native.Mathlib.Omega.{arith}
-use native.Mathlib.Nat.{add-zero, sub-zero}
 use native.Mathlib.Numerals.{add-one, sub-one}
 use borrow.Author.Tests.{eq-eqb, ne-eqb, lt-ltb, le-ltb}
-use lib.Dec.{eqb, ltb}
-use lib.ListN.{length, take, drop, getD, set, drop-of-length-le, length-drop, length-set}
-use lib.Seq.{take-length, drop-cons, take-suc, take-all, length-take-le, append-snoc, take-suc-set, drop-set-lt, getD-drop, getD-take, drop-drop}
-use Rattle.words.specs.WordsLaws.{drop-next, take-next}
+use lib.Dec.{ltb}
+use lib.ListN.{length, take, drop, getD, set, drop-of-length-le, length-drop}
+use lib.Seq.{take-length, take-all, length-take-le, append-snoc, take-suc-set, drop-set-lt}
+use Rattle.basics.specs.Lists.{drop-next, take-next}
 use Rattle.command.specs.Command.{conflict, sameRequest}
-use Rattle.history.specs.History.{present, repeated, canonical, equal, isCanonical}
-use Rattle.history.specs.Insertion.{place, clear, insert, arrange, stays, walk}
-use Rattle.history.specs.Front.{offAt, shifted, rotated, fronted}
+use Rattle.history.specs.History.{present, repeated}
+use Rattle.history.specs.Insertion.{place, stays, walk}
+use Rattle.history.specs.Front.{offAt, shifted, rotated}
 
 -- the part of a list from a on, as a slice `&h[a..]` is made of it
 pub tail-part : (h : List ℕ) (a : ℕ) → take (length h - a) (drop a h) ≡ drop a h

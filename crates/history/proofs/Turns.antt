@@ -1,18 +1,17 @@
 -- One turn of the loops that move commands, and what they leave at their end.
 use mathlib.Core.Path.{_≡_, refl, sym, ap, ap₂, _∙_, subst}
-use mathlib.Core.Bool.{Bool, true, false, _&&_, and-false}
-use mathlib.Core.List.{List, [], _∷_, _++_, append-nil, append-assoc}
+use mathlib.Core.Bool.{Bool, true, false, and-false}
+use mathlib.Core.List.{List, [], _∷_, _++_}
 use Prim.Native.Nat.{ℕ, zero, suc, _+_, _-_, _≤_, _<_}
 use native.Mathlib.Omega.{arith}
-use native.Mathlib.Numerals.{add-one}
 use borrow.Author.Tests.{le-ltb}
 use lib.ListN.{length, take, drop, getD, drop-of-length-le, length-drop, take-append-drop}
 use lib.Seq.{take-take, take-all, append-snoc, drop-drop, getD-drop}
+use Rattle.basics.specs.Lists.{drop-next, take-next}
 use Rattle.history.specs.History.{comesOff, without, extends}
 use Rattle.history.specs.Insertion.{clear, place, insert, arrange, Bounded, none, more}
 use Rattle.history.specs.Front.{rotated, fronted, offAt}
 use Rattle.history.specs.FrontLaws.{Standing, off-at-standing, off-at-absent}
-use Rattle.words.specs.WordsLaws.{drop-next, take-next}
 use Rattle.history.proofs.Moves.{moved, moved-take, moved-drop, moved-head, moved-rest, moved-length}
 
 -- ---- putting in order

@@ -1,19 +1,19 @@
 -- The canonical order of a history is equivalent to it, and equivalent histories have one canonical order.
 use mathlib.Core.Path.{_≡_, refl, sym, ap, ap₂, _∙_, subst}
-use mathlib.Core.Logic.{_⊎_, inl, inr}
-use mathlib.Core.Bool.{Bool, true, false, not, cond, _&&_, _||_, true≢false}
-use mathlib.Core.List.{List, [], _∷_, _++_, List·Memᴰ, List·Memᴰ·head, List·Memᴰ·tail, Memᴰ·cast}
-use Prim.Native.Nat.{ℕ, zero, suc, _+_, _≤_, _<_, min}
+use mathlib.Core.Bool.{Bool, true, false, true≢false}
+use mathlib.Core.List.{List, [], _∷_, List·Memᴰ, List·Memᴰ·head, List·Memᴰ·tail, Memᴰ·cast}
+use Prim.Native.Nat.{ℕ, zero, suc, _≤_, min}
 use native.Mathlib.Omega.{arith}
 use native.Mathlib.Decide.{decLe}
-use native.Mathlib.Nat.{min-eq-left, min-eq-right, le-antisymm}
+use native.Mathlib.Nat.{min-eq-left, le-antisymm}
 use borrow.Author.Tests.{eqb-true, eq-eqb}
 use lib.Dec.{eqb}
 use lib.ListN.{length}
+use Rattle.basics.specs.Bools.{and-left, and-right}
 use Rattle.command.specs.Command.{conflict}
-use Rattle.history.specs.History.{Equivalent, same, swap, keep, trans, apart, free, least, without, ordered, canonical, equal, isCanonical}
-use Rattle.history.specs.TakesLaws.{Takes, here, there, no-pass, apart-sym, takes-equivalent, takes-unique, Taken, taken, takes-along, equivalent-sym, equivalent-length, equivalent-nil}
-use Rattle.history.specs.ExtensionLaws.{takes-without, and-left, and-right}
+use Rattle.history.specs.History.{Equivalent, same, keep, trans, apart, free, least, without, ordered, canonical, equal, isCanonical}
+use Rattle.history.specs.TakesLaws.{Takes, here, there, takes-equivalent, takes-unique, Taken, taken, takes-along, equivalent-sym, equivalent-length}
+use Rattle.history.specs.ExtensionLaws.{takes-without}
 
 -- ---- the commands that have no conflicting command before them are those that can be taken off
 

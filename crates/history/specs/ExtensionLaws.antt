@@ -1,16 +1,16 @@
 -- Extension is an order up to equivalence, and the test `extends` decides it.
-use mathlib.Core.Path.{_≡_, refl, sym, ap, _∙_, subst}
-use mathlib.Core.Bool.{Bool, true, false, not, cond, _&&_, _||_, true≢false}
+use mathlib.Core.Path.{_≡_, refl, sym, _∙_, subst}
+use mathlib.Core.Bool.{Bool, true, false, true≢false}
 use mathlib.Core.List.{List, [], _∷_, _++_, append-nil, append-assoc}
-use Prim.Native.Nat.{ℕ, zero, suc, _+_, _≤_, _<_}
+use Prim.Native.Nat.{ℕ, _≤_, _<_}
 use native.Mathlib.Omega.{arith}
-use borrow.Author.Tests.{eqb-true, eq-eqb, eqb-false, ne-eqb}
+use borrow.Author.Tests.{eqb-true, eq-eqb, ne-eqb}
 use lib.Dec.{eqb}
 use lib.ListN.{length, length-append}
 use Rattle.command.specs.Command.{conflict}
-pub use Rattle.command.specs.CommandLaws.{and-left, and-right}
-use Rattle.history.specs.History.{Equivalent, same, swap, keep, trans, Extends, comesOff, without, extends}
-use Rattle.history.specs.TakesLaws.{Takes, here, there, no-pass, takes-equivalent, takes-unique, Taken, taken, takes-along, equivalent-sym, equivalent-length, equivalent-before, equivalent-behind, equivalent-refl}
+use Rattle.basics.specs.Bools.{and-left, and-right}
+use Rattle.history.specs.History.{Equivalent, same, keep, trans, Extends, comesOff, without, extends}
+use Rattle.history.specs.TakesLaws.{Takes, here, there, no-pass, takes-equivalent, Taken, taken, takes-along, equivalent-sym, equivalent-length, equivalent-behind, equivalent-refl}
 
 -- ---- an order up to equivalence
 

@@ -1,20 +1,20 @@
 -- Inserting a history's commands one after the other puts it in canonical order.
-use mathlib.Core.Path.{_≡_, refl, sym, ap, ap₂, _∙_, subst}
-use mathlib.Core.Bool.{Bool, true, false, not, cond, _&&_, _||_, true≢false, and-false}
+use mathlib.Core.Path.{_≡_, refl, sym, ap, _∙_, subst}
+use mathlib.Core.Bool.{Bool, true, false, not, cond, _&&_, and-false}
 use mathlib.Core.List.{List, [], _∷_, _++_, append-nil, append-assoc, head-eq-of-cons-eq, tail-eq-of-cons-eq}
-use Prim.Native.Nat.{ℕ, zero, suc, _+_, _≤_, _<_}
+use Prim.Native.Nat.{ℕ, zero, suc, _+_, _≤_}
 use native.Mathlib.Omega.{arith}
 use borrow.Author.Tests.{eqb-true, eq-eqb, ltb-true, ltb-false, not-true}
 use lib.Dec.{eqb, ltb}
-use lib.ListN.{length, take, drop, getD, length-append}
+use lib.ListN.{length, take, getD}
 use lib.Seq.{take-suc, take-length, drop-length, append-snoc, length-take-le}
 use native.Mathlib.Nat.{zero-add, add-zero}
+use Rattle.basics.specs.Bools.{and-left, and-right}
 use Rattle.command.specs.Command.{conflict}
-use Rattle.history.specs.History.{Equivalent, same, swap, keep, trans, canonical, equal, isCanonical}
-use Rattle.history.specs.TakesLaws.{Takes, here, there, no-pass, apart-sym, takes-equivalent, takes-along, Taken, taken, equivalent-sym, equivalent-behind, equivalent-before, equivalent-refl}
-use Rattle.history.specs.ExtensionLaws.{and-left, and-right}
+use Rattle.history.specs.History.{Equivalent, same, keep, trans, canonical, equal, isCanonical}
+use Rattle.history.specs.TakesLaws.{Takes, here, there, takes-equivalent, equivalent-sym, equivalent-behind, equivalent-refl}
 use Rattle.history.specs.CoherenceLaws.{Clear, empty, more, clear-past}
-use Rattle.history.specs.CanonicalLaws.{Takeable, off, takeable-along, Canonical, done, next, canonical-is, canonical-unique, canonical-equivalent, canonical-equivalent′, equal-true, equal-refl, is-canonical, one-order}
+use Rattle.history.specs.CanonicalLaws.{Takeable, off, takeable-along, Canonical, done, next, canonical-is, canonical-equivalent, canonical-equivalent′, equal-refl, is-canonical, one-order}
 use Rattle.history.specs.Insertion.{clear, place, insert, arrange, stays, walk}
 
 -- ---- one insertion

@@ -1,15 +1,16 @@
 -- Conflicting commands stand in the same order in compatible histories; and what depends on a history's commands alone is the same in equivalent ones.
 use mathlib.Core.Path.{_≡_, refl, sym, ap, ap₂, _∙_, subst}
 use mathlib.Core.Logic.{_⊎_, inl, inr}
-use mathlib.Core.Bool.{Bool, true, false, not, cond, _&&_, _||_, true≢false, or-assoc, or-comm}
-use mathlib.Core.List.{List, [], _∷_, _++_, List·Memᴰ, List·Memᴰ·head, List·Memᴰ·tail}
+use mathlib.Core.Bool.{Bool, true, false, _&&_, _||_, true≢false}
+use mathlib.Core.List.{List, _∷_, List·Memᴰ, List·Memᴰ·head, List·Memᴰ·tail}
 use Prim.Native.Nat.{ℕ}
+pub use Rattle.basics.specs.Bools.{or-left, or-right}
 use Rattle.command.specs.Command.{conflict, sameRequest, validCommand, allValid}
-use Rattle.command.specs.CommandLaws.{same-refl, same-sym, same-conflict}
-use Rattle.history.specs.History.{Equivalent, same, swap, keep, trans, Extends, Compatible, Before, at, later, present, repeated}
-use Rattle.history.specs.TakesLaws.{Takes, here, there, no-pass}
-use Rattle.history.specs.ExtensionLaws.{Below, none, take, extends-below}
-use Rattle.history.specs.CoherenceLaws.{Clear, empty, more, Residual, held, lacked, residual}
+use Rattle.command.specs.CommandLaws.{same-refl, same-sym}
+use Rattle.history.specs.History.{Equivalent, same, swap, keep, trans, Compatible, Before, at, later, present, repeated}
+use Rattle.history.specs.TakesLaws.{Takes, here, there}
+use Rattle.history.specs.ExtensionLaws.{Below, take, extends-below}
+use Rattle.history.specs.CoherenceLaws.{Clear, more, Residual, held, lacked, residual}
 
 -- ---- the commands of a history and of what is left of it
 
@@ -46,14 +47,6 @@ before-takes (there p t) (later b) = later (before-takes t b)
 before-mem : {c d : ℕ} {h : List ℕ} → Before c d h → List·Memᴰ d h
 before-mem (at e m) = List·Memᴰ·tail m
 before-mem (later b) = List·Memᴰ·tail (before-mem b)
-
-pub or-left : (a b : Bool) → (a || b) ≡ false → a ≡ false
-or-left true b e = e
-or-left false b e = refl
-
-pub or-right : (a b : Bool) → (a || b) ≡ false → b ≡ false
-or-right true b e = absurd (true≢false e)
-or-right false b e = e
 
 -- a request that is not present is no command's
 pub absent-mem : (c : ℕ) {d : ℕ} {h : List ℕ} → present c h ≡ false → List·Memᴰ d h → sameRequest c d ≡ false

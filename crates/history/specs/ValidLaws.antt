@@ -1,17 +1,15 @@
 -- What a valid history is, and that appending a new valid command keeps commands valid and requests apart.
-use mathlib.Core.Path.{_≡_, refl, sym, ap, _∙_}
-use mathlib.Core.Bool.{Bool, true, false, not, _&&_, _||_, true≢false}
+use mathlib.Core.Path.{_≡_, refl, ap, _∙_}
+use mathlib.Core.Bool.{Bool, true, false, not, _&&_, _||_}
 use mathlib.Core.List.{List, [], _∷_, _++_}
 use Prim.Native.Nat.{ℕ, _<_}
 use native.Mathlib.Omega.{arith}
 use borrow.Author.Tests.{not-true, not-false, eqb-false}
-use lib.Dec.{eqb}
 use lib.ListN.{length}
+use Rattle.basics.specs.Bools.{and-left, and-right, or-left, or-right}
 use Rattle.command.specs.Command.{sameRequest, validCommand, allValid}
 use Rattle.command.specs.CommandLaws.{same-sym}
 use Rattle.history.specs.History.{present, repeated, canonical, equal, isCanonical, validHistory, improper, ordered}
-use Rattle.history.specs.ExtensionLaws.{and-left, and-right}
-use Rattle.history.specs.OrderLaws.{or-left, or-right}
 
 -- the three parts of a valid history
 pub record ValidHistory (h : List ℕ) : Type 0 where

@@ -1,19 +1,18 @@
 -- Laws of histories in arrays.
-use mathlib.Core.Path.{_≡_, refl, sym, ap, _∙_}
-use mathlib.Core.List.{List, [], _∷_, _++_}
-use Prim.Native.Nat.{ℕ, zero, suc, _-_, min, _≤_}
+use mathlib.Core.Path.{_≡_, ap, _∙_}
+use mathlib.Core.List.{List}
+use Prim.Native.Nat.{ℕ, min, _≤_}
 use native.Mathlib.Omega.{arith}
-use native.Mathlib.Nat.{sub-zero}
 use mathlib.Core.Bool.{true}
 use borrow.Author.Tests.{le-leb, leb-true}
 use lib.Dec.{leb}
-use lib.ListN.{length, take, drop, replicate, length-take}
+use lib.ListN.{length, take, length-take}
 use lib.Seq.{take-all}
+use Rattle.basics.specs.Bools.{and-left, and-right}
 pub use Rattle.words.specs.WordsLaws.{length-padded, take-padded}
 use Rattle.words.specs.WordsLaws.{padded-first}
 use Rattle.history.specs.declared.History.{History}
 use Rattle.history.specs.History.{validHistory, extends}
-use Rattle.history.specs.ExtensionLaws.{and-left, and-right}
 use Rattle.history.specs.Words.{limit, padded, commands, stored, validStored, extendsWithin}
 
 -- a list of at most 32 commands, stored by value, is there whole

@@ -7,15 +7,16 @@ use Prim.Native.Nat.{ℕ, zero, suc, _≤_, _<_}
 use native.Mathlib.Omega.{arith}
 use native.Mathlib.Nat.{le-trans}
 use lib.ListN.{length}
+use Rattle.basics.specs.Bools.{true-or-false}
 use Rattle.roster.specs.declared.Roster.{Roster}
 use Rattle.roster.specs.Roster.{validRoster, quorum}
-use Rattle.roster.specs.RosterLaws.{Figures, valid-figures}
+use Rattle.roster.specs.RosterLaws.{valid-figures}
 use Rattle.roster.specs.Sites.{countTo}
-use Rattle.roster.specs.SitesLaws.{count-mono, count-some, last-or-below, true-or-false}
+use Rattle.roster.specs.SitesLaws.{count-mono, count-some, last-or-below}
 use Rattle.history.specs.History.{Extends, extends, isCanonical}
 use Rattle.history.specs.ExtensionLaws.{extends-refl, extends-trans, extends-complete}
 use Rattle.history.specs.ValidLaws.{valid-nil, valid-parts}
-use Rattle.history.specs.Words.{limit, commands, stored, validStored}
+use Rattle.history.specs.Words.{limit, commands, validStored}
 use Rattle.history.specs.WordsLaws.{stored-valid, valid-stored-history, valid-stored-length}
 use Rattle.table.specs.Table.{rowOf}
 use Rattle.table.specs.TableLaws.{empty-sized}

@@ -1,27 +1,27 @@
 -- One step of the learner: what holds of an accepted vote, and what the state keeps.
-use mathlib.Core.Path.{_≡_, refl, sym, ap, _∙_, subst}
-use mathlib.Core.Logic.{_⊎_, inl, inr, ⊎-elim}
-use mathlib.Core.Bool.{Bool, true, false, not, cond, _&&_, _||_, Bool·beq, true≢false}
-use mathlib.Core.List.{List, [], _∷_}
+use mathlib.Core.Path.{_≡_, refl, sym, ap, _∙_}
+use mathlib.Core.Logic.{⊎-elim}
+use mathlib.Core.Bool.{true, false, _&&_, Bool·beq, true≢false}
+use mathlib.Core.List.{List}
 use Prim.Native.Nat.{ℕ, _≤_, _<_}
 use native.Mathlib.Omega.{arith}
 use native.Mathlib.Decide.{ℕ-discrete}
-use borrow.Author.Tests.{le-leb, leb-false, leb-true, not-true, not-false, eqb-false, ne-eqb}
-use lib.Dec.{leb, eqb, lit<}
-use lib.ListN.{length, take, length-take}
+use borrow.Author.Tests.{le-leb, leb-false, not-false, ne-eqb}
+use lib.Dec.{eqb, lit<}
+use lib.ListN.{length, length-take}
+use Rattle.basics.specs.Bools.{true-or-false, and-left, and-right, beq-true}
 use Rattle.roster.specs.declared.Roster.{Roster}
 use Rattle.roster.specs.Roster.{validRoster, quorum}
-use Rattle.roster.specs.RosterLaws.{Figures, valid-figures}
+use Rattle.roster.specs.RosterLaws.{valid-figures}
 use Rattle.roster.specs.Mask.{bit}
 use Rattle.roster.specs.MaskLaws.{bit-out}
 use Rattle.roster.specs.Sites.{countTo, allTo}
-use Rattle.roster.specs.SitesLaws.{true-or-false, all-each, lt-or-le}
+use Rattle.roster.specs.SitesLaws.{all-each, lt-or-le}
 use Rattle.command.specs.Command.{allValid}
-use Rattle.command.specs.CommandLaws.{and-left, and-right}
-use Rattle.history.specs.History.{Extends, improper, isCanonical, extends, validHistory}
+use Rattle.history.specs.History.{Extends, improper, extends, validHistory}
 use Rattle.history.specs.ExtensionLaws.{extends-refl, extends-sound}
 use Rattle.history.specs.ValidLaws.{ValidHistory, valid-parts, parts-valid, not-improper, proper-some}
-use Rattle.history.specs.Words.{limit, commands, stored, validStored}
+use Rattle.history.specs.Words.{limit, commands, validStored}
 use Rattle.history.specs.WordsLaws.{commands-stored, stored-valid, valid-stored-history, valid-stored-length}
 use Rattle.merge.specs.declared.Merged.{Merged}
 use Rattle.merge.specs.Merged.{merged}
@@ -35,11 +35,9 @@ use Rattle.refusal.specs.declared.Refusal.{Refusal}
 use Rattle.refusal.specs.declared.Refusal.the-variants.{Config}
 use Rattle.refusal.specs.Rules.{judged}
 use Rattle.refusal.specs.JudgedLaws.{GivenFirst, NoneHolds, passed, pass, Judgement, refused, accepts, judgement, rising}
-use Rattle.frame.specs.declared.Frame.{Frame}
 use Rattle.frame.specs.Format.{readingOf, malformed}
 use Rattle.frame.specs.FormatLaws.{found-n}
 use Rattle.learner.specs.declared.State.{State}
-use Rattle.learner.specs.declared.Outcome.{Outcome}
 use Rattle.learner.specs.Learner.{
   config,
   taken,
@@ -152,15 +150,9 @@ only-p2b : allTo 8 (λ k. Bool·beq (bit taken k) (eqb k 7)) ≡ true
 unfolding allTo bit
 only-p2b = refl
 
-same-bool : (a b : Bool) → Bool·beq a b ≡ true → a ≡ b
-same-bool true true e = refl
-same-bool true false e = sym e
-same-bool false true e = e
-same-bool false false e = refl
-
 pub taken-is : (k : ℕ) → bit taken k ≡ eqb k 7
 taken-is k =
-    ⊎-elim (λ p. same-bool (bit taken k) (eqb k 7) (all-each 8 (λ i. Bool·beq (bit taken i) (eqb i 7)) only-p2b k p))
+    ⊎-elim (λ p. beq-true (bit taken k) (eqb k 7) (all-each 8 (λ i. Bool·beq (bit taken i) (eqb i 7)) only-p2b k p))
     (λ (p : 8 ≤ k). bit-out taken 8 k (lit< tt) p ∙ sym (ne-eqb k 7 (λ e. omega arith)))
     (lt-or-le k 8)
 

@@ -1,38 +1,36 @@
 -- The outcome of the verdict on what was read of a line is the step.
-use mathlib.Core.Path.{_≡_, refl, sym, ap, _∙_}
-use mathlib.Core.Logic.{_⊎_, inl, inr, ⊎-elim, _≢_}
-use mathlib.Core.Bool.{Bool, true, false, not, cond, _&&_, _||_}
+use mathlib.Core.Path.{_≡_, refl, ap, _∙_}
+use mathlib.Core.Logic.{⊎-elim, _≢_}
+use mathlib.Core.Bool.{Bool, true, false, cond}
 use mathlib.Core.List.{List, [], _∷_}
 use Prim.Native.Nat.{ℕ, _≤_, _<_}
 use native.Mathlib.Omega.{arith}
 use native.Mathlib.Decide.{ℕ-discrete}
-use borrow.Author.Tests.{leb-false, not-false, eq-eqb, ne-eqb}
-use lib.Dec.{leb, eqb}
-use lib.ListN.{length, length-take, take}
+use borrow.Author.Tests.{leb-false, eq-eqb, ne-eqb}
+use lib.Dec.{leb}
+use lib.ListN.{length, length-take}
+use Rattle.basics.specs.Bools.{true-or-false}
 use Rattle.roster.specs.declared.Roster.{Roster}
-use Rattle.roster.specs.Roster.{validRoster, quorum}
-use Rattle.roster.specs.RosterLaws.{Figures, valid-figures}
-use Rattle.roster.specs.Sites.{countTo}
-use Rattle.roster.specs.SitesLaws.{count-cong, true-or-false}
+use Rattle.roster.specs.Roster.{quorum}
+use Rattle.roster.specs.RosterLaws.{valid-figures}
+use Rattle.roster.specs.SitesLaws.{count-cong}
 use Rattle.history.specs.declared.History.{History as Stored}
 use Rattle.history.specs.History.{extends}
-use Rattle.history.specs.ExtensionLaws.{extends-refl, extends-complete}
+use Rattle.history.specs.ExtensionLaws.{extends-complete}
 use Rattle.history.specs.Words.{limit, commands}
 use Rattle.merge.specs.Merged.{merged}
 use Rattle.table.specs.declared.Table.{Table}
-use Rattle.table.specs.Table.{sites, rowOf, storedAt}
-use Rattle.table.specs.TableLaws.{Sized, row-stored, row-stored-other}
-use Rattle.refusal.specs.declared.Refusal.{Refusal}
+use Rattle.table.specs.Table.{sites, rowOf}
+use Rattle.table.specs.TableLaws.{Sized, row-stored-other}
 use Rattle.refusal.specs.declared.Refusal.the-variants.{Config, Form, Sender, Stale, Proof, Command, History, Contradiction, Split, Full}
 use Rattle.refusal.specs.declared.Answer.the-variants.{Accepted}
 use Rattle.refusal.specs.Rules.{judged, _gives_}
 use Rattle.refusal.specs.RulesLaws.{judged-map, judged-later}
-use Rattle.frame.specs.declared.Frame.{Frame}
 use Rattle.frame.specs.declared.Reading.{Reading}
 use Rattle.frame.specs.Format.{readingOf, malformed}
 use Rattle.learner.specs.declared.State.{State}
 use Rattle.learner.specs.Learner.{config, taken, form, vote, arrived, sender, contradicts, withVote, supporters, claimed, splits, overflows, after, refuse, accepted, step}
-use Rattle.learner.specs.StepLaws.{config-sound, Sound, vote-count, vote-enters, vote-stored, vote-stays}
+use Rattle.learner.specs.StepLaws.{config-sound, vote-count, vote-enters, vote-stored, vote-stays}
 use Rattle.learner.specs.Verdict.{backs, stands, standing, enough, none, against, favour, favoured, mergeChecks, checks, onReading, settled}
 
 -- ---- the supporters

@@ -7,10 +7,10 @@ use native.Mathlib.Omega.{arith}
 use native.Mathlib.Decide.{ℕ-discrete}
 use borrow.Author.Tests.{leb-false, leb-true, eqb-true, not-false}
 use lib.ListN.{length, length-take}
+use Rattle.basics.specs.Bools.{and-left, and-right}
 use Rattle.roster.specs.declared.Roster.{Roster}
 use Rattle.roster.specs.Roster.{quorum}
 use Rattle.roster.specs.Sites.{countTo}
-use Rattle.roster.specs.SitesLaws.{and-left, and-right}
 use Rattle.command.specs.Command.{allValid}
 use Rattle.history.specs.History.{Compatible, Least, improper, extends}
 use Rattle.history.specs.ValidLaws.{not-improper, proper-some}

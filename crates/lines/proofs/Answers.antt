@@ -1,14 +1,15 @@
 -- An answer's line: a number has three digits at most, and what is written one part after the other is the line with zeros after it.
-use Prim.Native.Nat.{ℕ, zero, suc, _+_, _-_, _/_, _%_, _≤_}
-use native.Mathlib.Nat.{add-zero, zero-add, add-suc, suc-add, sub-zero, zero-sub, suc-sub-suc}
+use Prim.Native.Nat.{ℕ, suc, _+_, _-_, _/_, _%_, _≤_}
+use native.Mathlib.Nat.{add-zero, zero-add, add-suc, suc-add}
 use native.Mathlib.Numerals.{add-one}
 use native.Mathlib.Omega.{arith}
-use mathlib.Core.Path.{_≡_, refl, sym, ap, _∙_}
+use mathlib.Core.Path.{_≡_, sym, ap, _∙_}
 use mathlib.Core.Bool.{Bool, true, false, cond}
-use mathlib.Core.List.{List, [], _∷_, _++_, append-assoc}
+use mathlib.Core.List.{List, [], _∷_, _++_}
 use lib.Dec.{ltb}
 use lib.ListN.{length, drop, set, replicate, length-append, length-replicate}
 use lib.Seq.{sets, sets-eq}
+use Rattle.basics.specs.Lists.{drop-zeros}
 use Rattle.lines.specs.declared.Text.{Text}
 use Rattle.lines.specs.Lines.{lineFeed, space, digit, decimal, answerLine, answerText}
 
@@ -30,11 +31,6 @@ sets-append l i (x ∷ a) b =
 
 abbrev zeros : ℕ → List ℕ
 zeros n = replicate n 0
-
-drop-zeros : (n k : ℕ) → drop k (zeros n) ≡ zeros (n - k)
-drop-zeros n zero = ap zeros (sym (sub-zero n))
-drop-zeros zero (suc k) = ap zeros (sym (zero-sub (suc k)))
-drop-zeros (suc n) (suc k) = drop-zeros n k ∙ ap zeros (sym (suc-sub-suc n k))
 
 module _ (n s : ℕ) where
   line-length : length (answerLine n s) ≡ length (decimal n) + 1 + length (decimal s) + 1
@@ -59,7 +55,7 @@ module _ (n s : ℕ) where
   padded =
       sets-eq (answerLine n s) (zeros 8) 0 (omega (arith, line-short, length-replicate {A = ℕ} 8 0))
       ∙ ap (λ (k : ℕ). answerLine n s ++ drop k (zeros 8)) (zero-add (length (answerLine n s)))
-      ∙ ap (λ (z : List ℕ). answerLine n s ++ z) (drop-zeros 8 (length (answerLine n s)))
+      ∙ ap (λ (z : List ℕ). answerLine n s ++ z) (drop-zeros (length (answerLine n s)) 8)
 
   -- so the text is the answer's, whatever its parts are called
   pub text-is : (at end : ℕ) (a b : List ℕ)

@@ -2,16 +2,16 @@
 use Prim.Native.Nat.{ℕ, _-_, _≤_, _<_}
 use native.Mathlib.Decide.{decLt}
 use native.Mathlib.Omega.{arith}
-use mathlib.Core.Path.{_≡_, refl, sym, _∙_}
+use mathlib.Core.Path.{_≡_, sym, _∙_}
 use mathlib.Core.Bool.{Bool, true, false, _&&_, true≢false, and-false}
 use mathlib.Core.List.{List}
-use lib.Dec.{leb, eqb}
+use lib.Dec.{leb}
 use lib.ListN.{length, getD}
 use borrow.Author.Tests.{lt-leb, le-leb, eq-eqb, ne-eqb}
+use Rattle.basics.specs.Bools.{and-left, and-right}
 use Rattle.roster.specs.declared.Roster.{Roster}
 use Rattle.frame.specs.Hex.{isDigit, valueOf, byteOf}
-use Rattle.frame.specs.Tests.{and-left, and-right}
-use Rattle.lines.specs.Lines.{lineFeed, areDigits, isRosterLine, rosterOf}
+use Rattle.lines.specs.Lines.{areDigits, isRosterLine, rosterOf}
 
 -- ---- one digit
 

@@ -1,17 +1,12 @@
 -- One turn of each loop that looks for commands in a list: the loop stops, goes on with one command less, or has come to the end.
 use mathlib.Core.Path.{_≡_}
 use mathlib.Core.Bool.{true, false}
-use mathlib.Core.List.{List, _∷_}
+use mathlib.Core.List.{List}
 use Prim.Native.Nat.{ℕ, _+_, _≤_, _<_}
-use native.Mathlib.Numerals.{add-one}
 use borrow.Author.Tests.{eq-eqb, ne-eqb}
 use lib.ListN.{length, drop, getD, drop-of-length-le}
-use lib.Seq.{drop-cons}
+use Rattle.basics.specs.Lists.{drop-next}
 use Rattle.merge.specs.Appending.{holds, differs, reuses, nothingNew}
-
--- the list from i on: the element at i, and the list from i + 1 on
-drop-next : (h : List ℕ) (i : ℕ) → i < length h → drop i h ≡ getD h i 0 ∷ drop (i + 1) h
-drop-next h i p = rw add-one (drop-cons h i 0 p)
 
 module _ (h : List ℕ) (i : ℕ) where
   -- ---- one command among those of h

@@ -1,19 +1,20 @@
 -- The computed merge is the merge: it extends both histories, it is least, and it is found whenever a common extension exists.
-use mathlib.Core.Path.{_≡_, refl, sym, ap, ap₂, _∙_, subst}
-use mathlib.Core.Bool.{Bool, true, false, not, cond, _&&_, _||_, true≢false}
-use mathlib.Core.List.{List, [], _∷_, _++_, append-nil, append-assoc, List·Memᴰ, List·Memᴰ·head, List·Memᴰ·tail}
+use mathlib.Core.Path.{_≡_, refl, sym, ap, _∙_, subst}
+use mathlib.Core.Bool.{Bool, true, false, cond, _||_, true≢false}
+use mathlib.Core.List.{List, [], _∷_, _++_, append-nil, append-assoc}
 use mathlib.Core.Option.{Option, none, some}
 use Prim.Native.Nat.{ℕ, suc, _+_, _≤_}
 use lib.ListN.{length, length-append}
 use native.Mathlib.Omega.{arith}
-use Rattle.command.specs.Command.{conflict, sameRequest, validCommand, allValid}
+use Rattle.basics.specs.Bools.{and-left, and-right, or-left, or-right}
+use Rattle.command.specs.Command.{sameRequest, validCommand, allValid}
 use Rattle.command.specs.CommandLaws.{same-refl, same-sym, same-conflict}
-use Rattle.history.specs.History.{Equivalent, same, swap, keep, trans, Extends, Compatible, Least, present, repeated, canonical, isCanonical, extends}
-use Rattle.history.specs.TakesLaws.{Takes, here, there, takes-equivalent, equivalent-sym, equivalent-before, equivalent-behind, equivalent-refl, equivalent-length}
-use Rattle.history.specs.ExtensionLaws.{Below, take, below-extends, extends-below, extends-refl, extends-trans, extends-along, extended-along, extends-append, extends-sound, extends-complete, extends-antisym, and-left, and-right}
+use Rattle.history.specs.History.{Equivalent, same, trans, Extends, Compatible, Least, present, repeated, canonical, isCanonical, extends}
+use Rattle.history.specs.TakesLaws.{Takes, here, takes-equivalent, equivalent-sym, equivalent-behind, equivalent-refl, equivalent-length}
+use Rattle.history.specs.ExtensionLaws.{Below, take, below-extends, extends-below, extends-refl, extends-trans, extends-along, extended-along, extends-append, extends-sound, extends-complete, extends-antisym}
 use Rattle.history.specs.CoherenceLaws.{Clear, empty, more, clear-past, Residual, held, lacked, residual}
-use Rattle.history.specs.CanonicalLaws.{canonical-equivalent, canonical-unique, canonical-is-canonical, is-canonical, canonical-same}
-use Rattle.history.specs.OrderLaws.{present-along, repeated-along, all-valid-along, or-left, or-right}
+use Rattle.history.specs.CanonicalLaws.{canonical-equivalent, canonical-unique, canonical-is-canonical, is-canonical}
+use Rattle.history.specs.OrderLaws.{present-along, repeated-along, all-valid-along}
 use Rattle.history.specs.ValidLaws.{present-append, all-valid-append, distinct-append, ValidHistory}
 use Rattle.merge.specs.Merge.{IsMerge, appended, merge}
 

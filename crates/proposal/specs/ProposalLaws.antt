@@ -9,14 +9,15 @@ use borrow.Author.Tests.{lt-ltb, le-ltb, eqb-true}
 use lib.Dec.{eqb}
 use lib.ListN.{length, take, drop, length-take, take-append-drop}
 use lib.Seq.{take-take}
+use Rattle.basics.specs.Bools.{and-left, and-right, or-left, or-right}
 use Rattle.roster.specs.Mask.{bit}
 use Rattle.roster.specs.SitesLaws.{last-or-below, lt-or-le}
 use Rattle.command.specs.Command.{sameRequest, validCommand, allValid}
 use Rattle.history.specs.History.{Equivalent, Extends, present, repeated, isCanonical, validHistory}
 use Rattle.history.specs.TakesLaws.{equivalent-sym, equivalent-refl}
-use Rattle.history.specs.ExtensionLaws.{and-left, and-right, extends-refl, extends-trans, extends-along}
+use Rattle.history.specs.ExtensionLaws.{extends-refl, extends-trans, extends-along}
 use Rattle.history.specs.CanonicalLaws.{canonical-equivalent, canonical-length, canonical-is-canonical}
-use Rattle.history.specs.OrderLaws.{or-left, or-right, repeated-along, all-valid-along}
+use Rattle.history.specs.OrderLaws.{repeated-along, all-valid-along}
 use Rattle.history.specs.ValidLaws.{valid-nil, valid-parts, parts-valid}
 use Rattle.history.specs.Words.{limit}
 use Rattle.history.specs.FitLaws.{EachFits, none as no-word, more as one-more, each-take, each-along}

@@ -5,9 +5,10 @@ use mathlib.Core.Path.{_≡_, subst}
 use mathlib.Core.Bool.{Bool, true, false, not, _&&_}
 use native.Mathlib.Omega.{arith}
 use borrow.Author.Tests.{not-true}
+use Rattle.basics.specs.Bools.{and-left, and-right}
 use Rattle.roster.specs.declared.Roster.{Roster}
 use Rattle.roster.specs.Sites.{countTo}
-use Rattle.roster.specs.SitesLaws.{and-left, and-right, count-some, count-both, count-not}
+use Rattle.roster.specs.SitesLaws.{count-some, count-both, count-not}
 use Rattle.roster.specs.Mask.{bit, reaches, beyond}
 use Rattle.roster.specs.MaskLaws.{inside-ones, reaches-iff}
 use Rattle.roster.specs.Roster.{validRoster, quorum, weakCertificate}

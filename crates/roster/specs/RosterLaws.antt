@@ -6,9 +6,9 @@ use native.Mathlib.Nat.{mod-lt}
 use native.Mathlib.Omega.{arith}
 use lib.Dec.{leb}
 use borrow.Author.Tests.{leb-true, le-leb, eq-eqb, ne-eqb}
+use Rattle.basics.specs.Bools.{and-left, and-right}
 use Rattle.roster.specs.declared.Roster.{Roster}
 use Rattle.roster.specs.declared.View.{View}
-use Rattle.roster.specs.SitesLaws.{and-left, and-right}
 use Rattle.roster.specs.Roster.{validRoster, quorum, weakCertificate, leaderOf}
 
 -- what the two thresholds are

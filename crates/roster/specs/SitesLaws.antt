@@ -3,34 +3,18 @@
 use Prim.Native.Nat.{ℕ, zero, suc, _+_, _*_, _^_, _≤_, _<_, zero-le}
 use mathlib.Core.Path.{_≡_, refl, sym, ap, ap₂, _∙_}
 use mathlib.Core.Logic.{_⊎_, inl, inr, ⊎-elim, _↔_}
-use mathlib.Core.Bool.{Bool, true, false, not, _&&_, and-true, true≢false, false≢true}
+use mathlib.Core.Bool.{Bool, true, false, not, _&&_, and-true, true≢false}
 use native.Mathlib.Nat.{le-refl, le-of-eq, le-step, lt-suc-self, not-suc-le-zero, le-of-suc-le-suc, eq-or-lt-of-le, le-add-right, add-zero, add-suc, zero-mul, zero-add}
 use native.Mathlib.Numerals.{add-one}
 use native.Mathlib.Omega.{arith}
 use lib.Dec.{ltb}
 use borrow.Author.Tests.{ltb-true, ltb-false}
+pub use Rattle.basics.specs.Bools.{and-left, and-right}
+use Rattle.basics.specs.Bools.{and-both, true-or-false}
 use Rattle.roster.specs.Sites.{toNat, countTo, allTo, maskTo}
 
--- ---- tests, and tests as numbers
+-- ---- tests as numbers
 
--- both hold
-pub and-left : (a b : Bool) → (a && b) ≡ true → a ≡ true
-and-left true b e = refl
-and-left false b e = e
-
-pub and-right : (a b : Bool) → (a && b) ≡ true → b ≡ true
-and-right true b e = e
-and-right false b e = absurd (false≢true e)
-
-pub and-both : (a b : Bool) → a ≡ true → b ≡ true → (a && b) ≡ true
-and-both a b x y = ap₂ _&&_ x y
-
--- a test holds or fails
-pub true-or-false : (b : Bool) → (b ≡ true) ⊎ (b ≡ false)
-true-or-false true = inl refl
-true-or-false false = inr refl
-
--- as numbers
 pub toNat-le : (b : Bool) → toNat b ≤ 1
 toNat-le true = le-refl 1
 toNat-le false = zero-le

@@ -1,20 +1,21 @@
 -- The sample table holds: one test that is computed over all of it, and for each kind of line a law that the test is enough.
-use mathlib.Core.Path.{_≡_, refl, sym, ap, ap₂, _∙_}
+use mathlib.Core.Path.{_≡_, refl, sym, ap, ap₂}
 use mathlib.Core.Bool.{Bool, true, false, not, _&&_, true≢false}
-use mathlib.Core.List.{List, [], _∷_, _++_}
+use mathlib.Core.List.{List, [], _∷_}
 use mathlib.Core.Option.{Option, none, some}
 use Prim.Native.Nat.{ℕ}
 use borrow.Author.Tests.{not-true}
 use lib.Count.{ones, onesIn}
+use Rattle.basics.specs.Bools.{and-left, and-right}
 use Rattle.roster.specs.Sites.{countTo, allTo}
 use Rattle.roster.specs.Mask.{bit, reaches, beyond}
 use Rattle.roster.specs.Roster.{validRoster, quorum}
 use Rattle.command.specs.Command.{validArgument, validCommand, allValid, field, proposer, kind, serial, slot, argument, sameRequest, kindsTable, kindsConflict, conflict}
-use Rattle.history.specs.History.{Extends, Compatible, present, repeated, apart, free, least, without, ordered, canonical, equal, isCanonical, validHistory, improper, comesOff, extends}
+use Rattle.history.specs.History.{present, repeated, apart, free, least, without, ordered, canonical, equal, isCanonical, validHistory, improper, comesOff, extends}
 use Rattle.history.specs.Words.{commands, padded, validStored}
-use Rattle.history.specs.ExtensionLaws.{extends-sound, extends-refuted, and-left, and-right}
+use Rattle.history.specs.ExtensionLaws.{extends-sound, extends-refuted}
 use Rattle.history.specs.CanonicalLaws.{equal-true}
-use Rattle.merge.specs.Merge.{IsMerge, appended, merge}
+use Rattle.merge.specs.Merge.{appended, merge}
 use Rattle.merge.specs.Merged.{answered}
 use Rattle.merge.specs.Merged as answer
 use Rattle.merge.specs.MergeLaws.{merge-found, merge-none}
@@ -25,7 +26,7 @@ use Rattle.frame.specs.Kinds.{uses, isKind, zeroUnless, unusedZero}
 use Rattle.frame.specs.Format.{lineOf, proper, allZero, fits, writable, framed, frameOf, isLine, readingOf, malformed}
 use Rattle.learner.specs.Learner.{fresh, config, sender, stale, proof, wrong, contradicts, withVote, supporters, claimed, splits, overflows, after, step}
 use Rattle.learner.specs.Run.{run, outcomes}
-use Rattle.samples.specs.Samples.{A, B, C, D, Sample, order, extension, no-extension, merged, split, votes, four, answers, Holds, samples, AllHold, end, line}
+use Rattle.samples.specs.Samples.{Sample, order, extension, no-extension, merged, split, votes, four, answers, Holds, samples, AllHold, end, line}
 
 -- whether a merge is m, and whether there is none
 is-found : Option (List ℕ) → List ℕ → Bool

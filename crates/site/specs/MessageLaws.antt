@@ -8,9 +8,9 @@ use native.Mathlib.Omega.{arith}
 use borrow.Author.Tests.{ltb-true, lt-ltb, eq-eqb, not-false}
 use lib.Dec.{ltb, lit<}
 use lib.ListN.{length, getD, take, drop, replicate, length-append}
+use Rattle.basics.specs.Bools.{and-left, and-right}
 use Rattle.roster.specs.declared.View.{View}
 use Rattle.roster.specs.declared.Ballot.{Ballot}
-use Rattle.roster.specs.SitesLaws.{and-left, and-right}
 use Rattle.history.specs.Words.{limit, padded}
 use Rattle.history.specs.WordsLaws.{length-padded, take-padded}
 use Rattle.history.specs.FitLaws.{EachFits, none, more, each-take, each-drop, each-append, each-padded}

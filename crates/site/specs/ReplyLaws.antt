@@ -5,9 +5,9 @@ use mathlib.Core.List.{List, _++_}
 use Prim.Native.Nat.{ℕ, _≤_, _<_}
 use native.Mathlib.Omega.{arith}
 use lib.ListN.{length, take, drop}
+use Rattle.basics.specs.Bools.{and-left}
 use Rattle.frame.specs.declared.Frame.{Frame}
 use Rattle.frame.specs.Layout.{longest, lineLength, count}
-use Rattle.roster.specs.SitesLaws.{and-left}
 use Rattle.frame.specs.Format.{lineOf, frameOf, writable, hasRoom, writtenLength, written}
 use Rattle.frame.specs.FormatLaws.{frame-of-line}
 use Rattle.frame.specs.InverseLaws.{longest-room, written-front}

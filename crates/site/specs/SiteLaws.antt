@@ -5,11 +5,11 @@ use Prim.Native.Nat.{ℕ, _≤_, _<_}
 use borrow.Author.Tests.{leb-true, ltb-true, not-true}
 use lib.Dec.{ltb}
 use lib.Pow.{pow-pos}
+use Rattle.basics.specs.Bools.{and-left, and-right}
 use Rattle.roster.specs.declared.Roster.{Roster}
 use Rattle.roster.specs.Roster.{validRoster}
 use Rattle.roster.specs.Mask.{beyond}
 use Rattle.roster.specs.MaskLaws.{beyond-false}
-use Rattle.roster.specs.SitesLaws.{and-left, and-right}
 use Rattle.frame.specs.Layout.{longest}
 use Rattle.site.specs.declared.ViewRecord.{ViewRecord}
 use Rattle.site.specs.Site.{seated, validRecord, fresh}

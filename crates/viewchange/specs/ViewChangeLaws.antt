@@ -2,7 +2,7 @@
 use mathlib.Core.Path.{_≡_, refl, sym, ap, _∙_, subst}
 use mathlib.Core.Logic.{_⊎_, inl, inr, ⊎-elim}
 use mathlib.Core.Bool.{Bool, true, false, _&&_, _||_, Bool·beq}
-use mathlib.Core.List.{List, []}
+use mathlib.Core.List.{List}
 use Prim.Native.Nat.{ℕ, _+_, _^_, _≤_, _<_}
 use native.Mathlib.Nat.{le-refl, le-of-lt}
 use native.Mathlib.Omega.{arith}
@@ -10,6 +10,7 @@ use borrow.Author.Tests.{leb-false, lt-leb, lt-ltb, eqb-true, ne-eqb, not-false}
 use lib.Count.{ones, onesIn}
 use lib.Dec.{leb, eqb, lit<}
 use lib.ListN.{length}
+use Rattle.basics.specs.Bools.{true-or-false, and-left, and-right, or-left, beq-true}
 use Rattle.roster.specs.declared.Roster.{Roster}
 use Rattle.roster.specs.declared.View.{View}
 use Rattle.roster.specs.Roster.{validRoster, quorum}
@@ -17,7 +18,7 @@ use Rattle.roster.specs.RosterLaws.{valid-figures}
 use Rattle.roster.specs.Sites.{allTo}
 use Rattle.roster.specs.Mask.{bit, reaches, withSite}
 use Rattle.roster.specs.MaskLaws.{bit-out, with-past, with-old, with-ones, with-fits, with-inside}
-use Rattle.roster.specs.SitesLaws.{and-left, and-right, true-or-false, lt-or-le, all-each}
+use Rattle.roster.specs.SitesLaws.{lt-or-le, all-each}
 use Rattle.refusal.specs.declared.Refusal.{Refusal}
 use Rattle.refusal.specs.JudgedLaws.{GivenFirst, NoneHolds, passed, pass, Judgement, refused, accepts, judgement, rising}
 use Rattle.frame.specs.declared.Frame.{Frame}
@@ -115,17 +116,11 @@ only-two : allTo 10 (λ k. Bool·beq (bit taken k) (eqb k suspicionKind || eqb k
 unfolding allTo bit
 only-two = refl
 
-same-bool : (a b : Bool) → Bool·beq a b ≡ true → a ≡ b
-same-bool true true e = refl
-same-bool true false e = sym e
-same-bool false true e = e
-same-bool false false e = refl
-
 pub taken-is : (k : ℕ) → bit taken k ≡ (eqb k suspicionKind || eqb k changeKind)
 taken-is k =
     ⊎-elim
     (λ p.
-    same-bool (bit taken k) (eqb k suspicionKind || eqb k changeKind)
+    beq-true (bit taken k) (eqb k suspicionKind || eqb k changeKind)
     (all-each 10 (λ i. Bool·beq (bit taken i) (eqb i suspicionKind || eqb i changeKind)) only-two k p))
     (λ (p : 10 ≤ k).
     bit-out taken 10 k (lit< tt) p ∙ sym (rw (ne-eqb k suspicionKind (λ e. omega arith), ne-eqb k changeKind (λ e. omega arith))))
@@ -360,10 +355,6 @@ keeps-config r own room v line e =
     rw (and-left (seated r own room) _ whole, keeps-valid r own room v line (and-right (seated r own room) _ whole))
 
 -- the view never falls
-or-left : (a b : Bool) → (a || b) ≡ false → a ≡ false
-or-left true b e = e
-or-left false b e = refl
-
 target-above : (v : ViewRecord) (m : Frame) → isSuspicion m ≡ false → stale v m ≡ false → eqb (m .view .0) (v .target .0) ≡ true → v .view .0 < v .target .0
 unfolding stale
 target-above v m p e q =

@@ -9,8 +9,8 @@ use borrow.Author.Tests.{eq-eqb, ne-eqb}
 use lib.Dec.{eqb}
 use lib.ListN.{length, take, drop, getD, set, length-set, drop-of-length-le}
 use lib.Seq.{take-suc, take-all, append-snoc, take-suc-set}
+use Rattle.basics.specs.Lists.{drop-next}
 use Rattle.words.specs.Words.{equal, cleared}
-use Rattle.words.specs.WordsLaws.{drop-next}
 
 -- ---- equality
 

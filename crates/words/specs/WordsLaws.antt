@@ -1,22 +1,11 @@
 -- Laws of lists of words.
-use mathlib.Core.Path.{_≡_, refl, sym, ap, _∙_}
+use mathlib.Core.Path.{_≡_, refl, ap, _∙_}
 use mathlib.Core.List.{List, [], _∷_, _++_}
-use Prim.Native.Nat.{ℕ, zero, suc, _+_, _-_, _≤_, _<_}
+use Prim.Native.Nat.{ℕ, zero, suc, _-_, _≤_}
 use native.Mathlib.Omega.{arith}
 use native.Mathlib.Nat.{sub-zero}
-use native.Mathlib.Numerals.{add-one}
-use lib.ListN.{length, take, drop, getD, replicate, length-take}
-use lib.Seq.{drop-cons, take-suc}
+use lib.ListN.{length, take, drop, replicate, length-take}
 use Rattle.words.specs.Words.{padded, cleared}
-
--- the list from i on: the element at i, and the list from i + 1 on
-pub drop-next : (h : List ℕ) (i : ℕ) → i < length h → drop i h ≡ getD h i 0 ∷ drop (i + 1) h
-drop-next h i p = rw add-one (drop-cons h i 0 p)
-
-pub take-next : (h : List ℕ) (i : ℕ) → i < length h → take (i + 1) h ≡ take i h ++ getD h i 0 ∷ []
-take-next h i p = rw add-one (take-suc h i 0 p)
-
--- ---- filling
 
 pub length-padded : (n : ℕ) (l : List ℕ) → length (padded n l) ≡ n
 unfolding padded

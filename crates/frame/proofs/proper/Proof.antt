@@ -5,7 +5,7 @@ use borrow.Author.Needs.{needs}
 use borrow.Author.Tests.{not-true, not-false, ltb-true}
 use lib.Dec.{leb, ltb}
 use lib.ListN.{getD}
-use Rattle.frame.specs.Tests.{and-right}
+use Rattle.basics.specs.Bools.{and-right}
 use Rattle.frame.proofs.Turns.{known, few, proper-unknown, proper-many, proper-rest}
 use Rattle.frame.proofs.proper.Statement.{statement}
 use Rattle.frame.proofs.proper.Tie as tie

@@ -1,0 +1,3 @@
+-- Laws on Boolean tests and on lists.
+pub mod Bools
+pub mod Lists
