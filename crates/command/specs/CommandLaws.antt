@@ -41,7 +41,7 @@ eqb-sym zero (suc b) = eqb·zero-suc b ∙ sym (eqb·suc-zero b)
 eqb-sym (suc a) zero = eqb·suc-zero a ∙ sym (eqb·zero-suc a)
 eqb-sym (suc a) (suc b) = eqb·suc-suc a b ∙ eqb-sym a b ∙ sym (eqb·suc-suc b a)
 
--- The identity of a request: two commands share it when proposer and serial are equal, so it is an equivalence.
+-- The identity of a request: two commands share it when proposer and serial are equal.
 
 pub same-fields : (c d : ℕ) → sameRequest c d ≡ true → (proposer c ≡ proposer d) × (serial c ≡ serial d)
 unfolding sameRequest
@@ -60,12 +60,6 @@ same-refl c = fields-same c c refl refl
 pub same-sym : (c d : ℕ) → sameRequest c d ≡ sameRequest d c
 unfolding sameRequest
 same-sym c d = rw (eqb-sym (proposer c) (proposer d), eqb-sym (serial c) (serial d))
-
-pub same-trans : (a b c : ℕ) → sameRequest a b ≡ true → sameRequest b c ≡ true → sameRequest a c ≡ true
-same-trans a b c p q =
-    let ab : (proposer a ≡ proposer b) × (serial a ≡ serial b) = same-fields a b p in
-    let bc : (proposer b ≡ proposer c) × (serial b ≡ serial c) = same-fields b c q in
-    fields-same a c (ab .0 ∙ bc .0) (ab .1 ∙ bc .1)
 
 -- The rule of the table of kinds.
 

@@ -17,9 +17,9 @@ use Rattle.frame.specs.Hex.{digitsOf, spell, allFit, total}
 use Rattle.frame.specs.HexLaws.{length-digits}
 use Rattle.frame.specs.Layout.{commandWidth, widths, values, count, first, second, lineLength}
 use Rattle.frame.specs.Kinds.{unusedZero}
-use Rattle.frame.specs.Format.{commands, lineOf, proper, allZero, fits, writable, hasRoom, writtenLength, written, frameFrom, listed, lengthFrom, writtenFrom}
+use Rattle.frame.specs.Format.{commands, lineOf, proper, allZero, fits, writable, hasRoom, writtenLength, written, headOf, frameFrom, listed, lengthFrom, writtenFrom}
 use Rattle.frame.specs.FormatLaws.{proper-count}
-use Rattle.frame.specs.FromLaws.{listed-first, listed-second, listed-count, from-writable, from-line, from-listed, headOf, lists-are, from-parts}
+use Rattle.frame.specs.FromLaws.{listed-first, listed-second, listed-count, from-writable, from-line, from-listed, lists-are, from-parts}
 use Rattle.frame.specs.Leaves.{properHeader}
 use Rattle.frame.proofs.Runs.{commands-length, commands-total}
 
@@ -209,13 +209,14 @@ module _ (out g k head hdr : List ℕ) (eight : length head ≡ 8) (eh : hdr ≡
       unfolding writtenLength written hasRoom total proper properHeader unusedZero end
       all-written h same e s p fg fk =
           let f = frameFrom h g k in
+          let good : proper f ≡ true = ap properHeader (sym same) ∙ p in
           let can : writable f ≡ true =
-          from-writable h g k e (ap properHeader (sym same) ∙ p) (sized-fits h g k s) (words-fit (length g) g refl fg) (words-fit (length k) k refl fk) in
+          from-writable h g k e good (sized-fits h g k s) (words-fit (length g) g refl fg) (words-fit (length k) k refl fk) in
           let long : end + 1 ≡ lineLength (count f) = omega (arith, listed-count h g k e) in
           let fine : hasRoom f (length out) ≡ true =
           and-both (writable f) (leb (lineLength (count f)) (length out)) can (le-leb (lineLength (count f)) (length out) (omega arith)) in
           let line : hdr ++ ((a ++ b) ++ 10 ∷ []) ≡ lineOf f =
-          ap₂ (λ (x y : List ℕ). x ++ (y ++ 10 ∷ [])) (eh ∙ ap (spell widths) same) (ap₂ _++_ ea eb) ∙ sym (from-line h g k e) in (
+          ap₂ (λ (x y : List ℕ). x ++ (y ++ 10 ∷ [])) (eh ∙ ap (spell widths) same) (ap₂ _++_ ea eb) ∙ sym (from-line h g k e good) in (
             long ∙ sym (ap (λ (t : Bool). cond t (lineLength (count f)) 0) fine) ∙ sym (from-listed h g k out e .0),
             put-is
                 ∙ ap₂ (λ (x : List ℕ) (n : ℕ). x ++ drop n out) line long

@@ -1,33 +1,26 @@
 -- How a line is judged, test by test, as `read_into` and `read_bare` go.
-use Prim.Native.Nat.{ℕ, zero, suc, _+_, _-_, _*_, _^_, _≤_, _<_}
+use Prim.Native.Nat.{ℕ, _+_, _-_, _*_, _^_, _≤_, _<_}
 use native.Mathlib.Nat.{le-refl}
 use native.Mathlib.Omega.{arith}
 use mathlib.Core.Path.{_≡_, refl, sym, ap, ap₂, subst, _∙_}
 use mathlib.Core.Bool.{Bool, true, false, cond, _&&_, and-false, true≢false}
-use mathlib.Core.List.{List, [], _∷_, _++_}
-use lib.Dec.{leb, ltb, eqb, lit<}
+use mathlib.Core.List.{List, [], _++_}
+use lib.Dec.{leb, eqb, lit<}
 use lib.ListN.{length, getD, take, drop, replicate, length-drop, length-replicate}
 use lib.Seq.{take-add, length-take-le}
-use borrow.Author.Tests.{ltb-true, leb-true, eq-eqb, ne-eqb}
+use borrow.Author.Tests.{leb-true, eq-eqb, ne-eqb}
 use Rattle.basics.specs.Bools.{and-left, and-right}
 use Rattle.basics.specs.Lists.{drop-zeros}
 use Rattle.roster.specs.Mask.{bit}
+use Rattle.words.specs.WordsLaws.{padded-zeros}
 use Rattle.frame.specs.declared.Heading.{Heading}
 use Rattle.frame.specs.Hex.{allDigits, numbers, allFit, total}
-use Rattle.frame.specs.HexLaws.{all-append, numbers-fit, numbers-take, length-numbers}
+use Rattle.frame.specs.HexLaws.{fit-at, all-append, numbers-fit, numbers-take, length-numbers}
 use Rattle.frame.specs.Layout.{commandWidth, limit, widths, count, lineLength}
 use Rattle.frame.specs.Kinds.{uses, isKind, zeroUnless, unusedZero}
 use Rattle.frame.specs.Format.{commands, lineFeed, proper, framed, frameOf, isLine, nothing, readingOf, readingWith}
 use Rattle.frame.specs.FormatLaws.{total-commands}
 use Rattle.frame.specs.Leaves.{NumbersIn, properHeader, Fitting, Headed, Counted, Found, HeadIn, headingOf, noHeading, bodyGood, bodyReading, BodyIn}
-
--- a number that fits, among others
-fit-at : (ws xs : List ℕ) → allFit ws xs ≡ true → (k : ℕ) → k < length ws → getD xs k 0 < 256 ^ getD ws k 0
-unfolding allFit
-fit-at [] xs e k h = absurd (omega arith)
-fit-at (w ∷ ws) [] e k h = absurd (true≢false (sym e))
-fit-at (w ∷ ws) (x ∷ xs) e zero h = ltb-true x (256 ^ w) (and-left (ltb x (256 ^ w)) (allFit ws xs) e)
-fit-at (w ∷ ws) (x ∷ xs) e (suc k) h = fit-at ws xs (and-right (ltb x (256 ^ w)) (allFit ws xs) e) k (omega arith)
 
 abbrev zeros : ℕ → List ℕ
 zeros n = replicate n 0
@@ -58,11 +51,6 @@ header-fits l long d k h =
     (ap (allFit widths) (sym (numbers-take widths l 36 (le-refl 36))) ∙ numbers-fit widths (take 36 l) (length-take-le 36 l (omega arith)) d) k h
 
 module _ (l : List ℕ) (inv : Headed l) where
-  -- each fits its width
-  pub head-fits : (k : ℕ) → k < 8 → getD (numbers widths l) k 0 < 256 ^ getD widths k 0
-  unfolding total
-  head-fits k p = header-fits l (inv .long) (inv .spelled) k p
-
   -- the counts, as the code has them
   module _ (n m : ℕ) (are : Counted l n m) where
     few : (leb n limit && leb m limit) ≡ true
@@ -147,9 +135,10 @@ module _ (l : List ℕ) (inv : Headed l) where
               let read : ys ≡ numbers (commands (count (frameOf l))) (drop 36 l) =
               r .are g ∙ numbers-take (commands k) (drop 36 l) (36 + 16 * (n + m) - 36) (omega (arith, total-commands k))
               ∙ ap (λ (j : ℕ). numbers (commands j) (drop 36 l)) same in
-              let left : 64 - (n + m) ≡ 64 - length (numbers (commands (count (frameOf l))) (drop 36 l)) =
-              omega (arith, length-numbers (commands (count (frameOf l))) (drop 36 l), length-replicate (count (frameOf l)) commandWidth, same) in
-              ap₂ (λ (s t : List ℕ). s ++ t) read (drop-zeros (n + m) 64 ∙ ap zeros left)
+              let size : length (numbers (commands (count (frameOf l))) (drop 36 l)) ≡ n + m =
+              length-numbers (commands (count (frameOf l))) (drop 36 l) ∙ length-replicate (count (frameOf l)) commandWidth ∙ counted in
+              ap₂ (λ (s t : List ℕ). s ++ t) read (drop-zeros (n + m) 64 ∙ ap (λ (j : ℕ). zeros (64 - j)) (sym size))
+              ∙ padded-zeros 64 (numbers (commands (count (frameOf l))) (drop 36 l)) (omega (arith, size, head-n, head-m))
 
           pub body-in : {ws : List ℕ} → ws ≡ replicate 64 0 → BodyIn l good (ys ++ drop (n + m) ws)
           body-in z = record { is = r .all ∙ sym good-is; words = λ g. ap (λ (t : List ℕ). ys ++ drop (n + m) t) z ∙ words-are g }

@@ -22,11 +22,6 @@ bareKind k = not (getD (getD uses k []) 6 true) && not (getD (getD uses k []) 7 
 unfoldable pub bareKinds : ℕ → Bool
 bareKinds kinds = everyBelow 11 (λ k. not (bit kinds k) || bareKind k)
 
--- SUSPICION and VIEWCHANGE, bits 8 and 9
-pub bare-768 : bareKinds 768 ≡ true
-unfolding bareKinds bareKind everyBelow bit uses
-bare-768 = refl
-
 -- a field that a row doesn't use is 0
 unused-at : (r : List Bool) (xs : List ℕ) (k : ℕ) → zeroUnless r xs ≡ true → getD r k true ≡ false → getD xs k 0 ≡ 0
 unfolding zeroUnless

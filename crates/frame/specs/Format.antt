@@ -1,9 +1,10 @@
 -- What line a frame has, which frames have one, and what frame a line has.
-use Prim.Native.Nat.{ℕ, _+_, _-_, _*_}
+use Prim.Native.Nat.{ℕ, _-_, _*_}
 use mathlib.Core.Bool.{Bool, true, false, not, cond, _&&_}
 use mathlib.Core.List.{List, [], _∷_, _++_}
 use lib.Dec.{leb, eqb}
 use lib.ListN.{length, getD, take, drop, replicate}
+use Rattle.words.specs.Words.{padded}
 use Rattle.frame.specs.declared.Frame.{Frame}
 use Rattle.frame.specs.declared.Heading.{Heading}
 use Rattle.frame.specs.declared.Reading.{Reading}
@@ -40,13 +41,9 @@ fits f = allFit widths (values f) && allFit (commands capacity) (f .words)
 unfoldable pub writable : Frame → Bool
 writable f = proper f && (allZero (drop (count f) (f .words)) && fits f)
 
--- commands as words, with 0 after them
-abbrev pub padded : List ℕ → List ℕ
-padded ws = ws ++ replicate (capacity - length ws) 0
-
--- the frame that a line's digits spell: the header's values, and as many commands as they say
+-- the frame that a line's digits spell: the header's values, and as many commands as they say, with 0 after them
 unfoldable pub framed : List ℕ → List ℕ → Frame
-framed h rest = withValues h (padded (numbers (commands (count (withValues h []))) rest))
+framed h rest = withValues h (padded capacity (numbers (commands (count (withValues h []))) rest))
 
 unfoldable pub frameOf : List ℕ → Frame
 frameOf l = framed (numbers widths l) (drop (2 * total widths) l)
@@ -71,6 +68,24 @@ readingOf l kinds = cond (isLine l && bit kinds (frameOf l .kind)) (record { fou
 -- the same, of a line with no commands
 unfoldable pub bareReading : List ℕ → ℕ → Reading
 bareReading l kinds = cond (eqb (count (readingOf l kinds .frame)) 0) (readingOf l kinds) nothing
+
+-- the heading of a frame, or of none
+abbrev pub headWith : Bool → Frame → Heading
+headWith found f =
+    record {
+      found = found;
+      kind = f .kind;
+      sender = f .sender;
+      view = f .view;
+      ballot = f .ballot;
+      proven = f .proven;
+      mask = f .mask;
+      n = f .n;
+      m = f .m;
+    }
+
+abbrev pub headOf : Frame → Heading
+headOf f = headWith true f
 
 -- a frame whose heading and words are apart, and what is read so
 abbrev pub frameWith : Heading → List ℕ → Frame
@@ -107,7 +122,7 @@ written f out = cond (hasRoom f (length out)) (lineOf f ++ drop (lineLength (cou
 
 -- the frame with this heading and these two lists of commands, whether the lists are n and m long, and what writing it answers and leaves
 abbrev pub frameFrom : Heading → List ℕ → List ℕ → Frame
-frameFrom h g k = frameWith h (padded (g ++ k))
+frameFrom h g k = frameWith h (padded capacity (g ++ k))
 
 unfoldable pub listed : Heading → List ℕ → List ℕ → Bool
 listed h g k = eqb (length g) (h .n) && eqb (length k) (h .m)

@@ -8,16 +8,18 @@ use mathlib.Core.List.{List, [], _∷_, _++_, append-assoc}
 use lib.Dec.{leb, ltb, eqb}
 use lib.ListN.{length, getD, take, drop, replicate, length-append, length-replicate, length-drop, take-append-drop, drop-of-length-le}
 use lib.Seq.{take-at, drop-at, getD-at, take-add, split-at, length-take-le}
-use borrow.Author.Tests.{eqb-true, eq-eqb, leb-true, le-leb}
+use borrow.Author.Tests.{eqb-true, eq-eqb, leb-true}
 use Rattle.basics.specs.Bools.{and-both, and-left, and-right}
+use Rattle.words.specs.Words.{padded}
+use Rattle.words.specs.WordsLaws.{padded-zeros}
 use Rattle.frame.specs.declared.Frame.{Frame}
 use Rattle.frame.specs.declared.Reading.{Reading}
 use Rattle.roster.specs.Mask.{bit}
 use Rattle.frame.specs.Hex.{allDigits, digitsOf, spell, numbers, allFit, total}
-use Rattle.frame.specs.HexLaws.{all-append, number-digits, length-spell, all-spell, numbers-spell, numbers-fit, spell-numbers, length-numbers, numbers-take}
+use Rattle.frame.specs.HexLaws.{all-append, length-spell, all-spell, numbers-spell, numbers-fit, spell-numbers, length-numbers, numbers-take}
 use Rattle.frame.specs.Layout.{commandWidth, limit, capacity, widths, values, withValues, count, lineLength, longest}
 use Rattle.frame.specs.Kinds.{isKind, unusedZero}
-use Rattle.frame.specs.Format.{commands, lineFeed, lineOf, proper, allZero, fits, writable, padded, framed, frameOf, isLine, blank, nothing, readingOf, hasRoom, writtenLength, written}
+use Rattle.frame.specs.Format.{commands, lineFeed, lineOf, proper, allZero, fits, writable, framed, frameOf, isLine, blank, nothing, readingOf}
 
 -- ---- the layout
 
@@ -157,10 +159,12 @@ all-zeros zero = refl
 all-zeros (suc n) = all-zeros n
 
 -- words whose rest is 0 are their first ones padded
-pub padded-words : (k : ℕ) (xs : List ℕ) → length xs ≡ capacity → k ≤ capacity → allZero (drop k xs) ≡ true → padded (take k xs) ≡ xs
+pub padded-words : (k : ℕ) (xs : List ℕ) → length xs ≡ capacity → k ≤ capacity → allZero (drop k xs) ≡ true → padded capacity (take k xs) ≡ xs
 padded-words k xs e h z =
-    let rest : capacity - length (take k xs) ≡ length (drop k xs) = omega (arith, length-drop k xs, length-take-le k xs (omega arith)) in
-    ap (λ (n : ℕ). take k xs ++ replicate n 0) rest
+    let size : length (take k xs) ≡ k = length-take-le k xs (omega arith) in
+    let rest : capacity - length (take k xs) ≡ length (drop k xs) = omega (arith, length-drop k xs, size) in
+    sym (padded-zeros capacity (take k xs) (omega arith))
+    ∙ ap (λ (n : ℕ). take k xs ++ replicate n 0) rest
     ∙ ap (λ (s : List ℕ). take k xs ++ s) (sym (zeros-are (drop k xs) z))
     ∙ take-append-drop k xs
 
@@ -235,7 +239,7 @@ module _ (f : Frame) (w : Written f) where
   unfolding frameOf framed
   read-written =
       ap₂ framed line-values line-rest
-      ∙ ap (λ (ws : List ℕ). withValues (values f) (padded ws))
+      ∙ ap (λ (ws : List ℕ). withValues (values f) (padded capacity ws))
       (numbers-spell (commands (count f)) (take (count f) (f .words)) (lineFeed ∷ []) front-fits)
       ∙ ap (withValues (values f))
       (padded-words (count f) (f .words) (fit-length (commands capacity) (f .words) (w .words-fit) ∙ length-replicate capacity commandWidth) few (w .clear))
@@ -264,10 +268,6 @@ module _ (l : List ℕ) (p : Parts l) where
 
   body : List ℕ
   body = take (length l - 1) l
-
-  body-size : length body ≡ 2 * (total widths + commandWidth * held)
-  unfolding body held
-  body-size = omega (arith, length-take-le (length l - 1) l (omega arith), p .size)
 
   -- the digits and the line feed
   body-feed : l ≡ body ++ lineFeed ∷ []
@@ -325,9 +325,16 @@ module _ (l : List ℕ) (p : Parts l) where
   unfolding words-are
   words-size = length-numbers (commands held) command-digits ∙ length-replicate held commandWidth
 
-  frame-words : frameOf l .words ≡ padded words-are
+  most : held ≤ capacity
+  unfolding held
+  most = proper-count (frameOf l) (p .values-proper)
+
+  frame-words : frameOf l .words ≡ words-are ++ replicate (capacity - length words-are) 0
   unfolding frameOf framed words-are held command-digits
-  frame-words = ap padded (sym (numbers-take (commands (count (frameOf l))) (drop (2 * total widths) l) (2 * total (commands (count (frameOf l)))) (le-refl (2 * total (commands (count (frameOf l)))))))
+  frame-words =
+      ap (padded capacity)
+      (sym (numbers-take (commands (count (frameOf l))) (drop (2 * total widths) l) (2 * total (commands (count (frameOf l)))) (le-refl (2 * total (commands (count (frameOf l)))))))
+      ∙ sym (padded-zeros capacity words-are (omega (arith, words-size, most)))
 
   -- writing what was read gives the line
   written-read : lineOf (frameOf l) ≡ l
@@ -346,8 +353,7 @@ module _ (l : List ℕ) (p : Parts l) where
   frame-written : Written (frameOf l)
   unfolding held words-are
   frame-written =
-      let most : held ≤ capacity = proper-count (frameOf l) (p .values-proper) in
-      let room : held + (capacity - length words-are) ≡ capacity = omega (arith, words-size) in
+      let room : held + (capacity - length words-are) ≡ capacity = omega (arith, words-size, most) in
       record {
         values-proper = p .values-proper;
         clear =
@@ -357,7 +363,7 @@ module _ (l : List ℕ) (p : Parts l) where
         header-fits = ap (allFit widths) frame-values ∙ numbers-fit widths head-digits head-size head-spelled;
         words-fit =
             ap (allFit (commands capacity)) frame-words
-            ∙ ap (λ (n : ℕ). allFit (commands n) (padded words-are)) (sym room)
+            ∙ ap (λ (n : ℕ). allFit (commands n) (words-are ++ replicate (capacity - length words-are) 0)) (sym room)
             ∙ fit-append held (capacity - length words-are) words-are (replicate (capacity - length words-are) 0)
             (numbers-fit (commands held) command-digits command-size command-spelled) (zeros-fit (capacity - length words-are));
       }
@@ -385,15 +391,6 @@ one-frame f g p q e = sym (frame-of-line f p) ∙ ap frameOf e ∙ frame-of-line
 pub one-line : (l r : List ℕ) → isLine l ≡ true → isLine r ≡ true → frameOf l ≡ frameOf r → l ≡ r
 one-line l r p q e = sym (line-of-frame l p) ∙ ap lineOf e ∙ line-of-frame r q
 
--- the kind and the sender of a written line are the frame's, whatever else it holds
-pub line-kind : (f : Frame) → f .kind < 256 → frameOf (lineOf f) .kind ≡ f .kind
-unfolding frameOf framed numbers lineOf spell digitsOf
-line-kind f h = number-digits 1 (f .kind) h
-
-pub line-sender : (f : Frame) → f .sender < 256 → frameOf (lineOf f) .sender ≡ f .sender
-unfolding frameOf framed numbers lineOf spell digitsOf
-line-sender f h = number-digits 1 (f .sender) h
-
 -- ---- lengths and counts
 
 -- a line is no longer than the longest, and the room that a line needs is its length
@@ -412,42 +409,6 @@ writable-m f e = proper-m f (writable-is f e .values-proper)
 
 pub writable-words : (f : Frame) → writable f ≡ true → length (f .words) ≡ capacity
 writable-words f e = fit-length (commands capacity) (f .words) (writable-is f e .words-fit) ∙ length-replicate capacity commandWidth
-
--- ---- what is written
-
-module _ (f : Frame) (out : List ℕ) where
-  pub written-some : writable f ≡ true → lineLength (count f) ≤ length out → (writtenLength f out ≡ length (lineOf f)) × (written f out ≡ lineOf f ++ drop (length (lineOf f)) out)
-  unfolding writtenLength written hasRoom
-  written-some e h =
-      let room : (writable f && leb (lineLength (count f)) (length out)) ≡ true =
-      and-both (writable f) (leb (lineLength (count f)) (length out)) e (le-leb (lineLength (count f)) (length out) h) in (
-        ap (λ (b : Bool). cond b (lineLength (count f)) 0) room ∙ sym (length-of-line f e),
-        ap (λ (b : Bool). cond b (lineOf f ++ drop (lineLength (count f)) out) out) room
-            ∙ ap (λ (n : ℕ). lineOf f ++ drop n out) (sym (length-of-line f e)),
-      )
-
-  -- the longest line's room is enough
-  pub written-longest : writable f ≡ true → longest ≤ length out → (writtenLength f out ≡ length (lineOf f)) × (written f out ≡ lineOf f ++ drop (length (lineOf f)) out)
-  written-longest e h = written-some e (omega (arith, line-at-most f e, length-of-line f e))
-
-  pub written-none : writable f ≡ false → (writtenLength f out ≡ 0) × (written f out ≡ out)
-  unfolding writtenLength written hasRoom
-  written-none e = (rw e, rw e)
-
-  pub written-length : length (written f out) ≡ length out
-  unfolding written hasRoom
-  written-length = go (writable f && leb (lineLength (count f)) (length out)) refl
-    where
-      go : (b : Bool) → (writable f && leb (lineLength (count f)) (length out)) ≡ b → length (cond b (lineOf f ++ drop (lineLength (count f)) out) out) ≡ length out
-      go false e = refl
-      go true e =
-          omega (
-            arith,
-            length-append (lineOf f) (drop (lineLength (count f)) out),
-            length-drop (lineLength (count f)) out,
-            length-of-line f (and-left (writable f) (leb (lineLength (count f)) (length out)) e),
-            leb-true (lineLength (count f)) (length out) (and-right (writable f) (leb (lineLength (count f)) (length out)) e),
-          )
 
 -- ---- what is read
 

@@ -9,7 +9,7 @@ use mathlib.Core.Bool.{Bool, true, false, not, _&&_, _||_, true≢false, and-fal
 use mathlib.Core.List.{List, [], _∷_, _++_, append-nil, append-assoc}
 use lib.Dec.{leb, ltb, eqb}
 use lib.Arith.{lt-one}
-use lib.ListN.{length, take, drop, length-append, take-append-drop, length-drop}
+use lib.ListN.{length, getD, take, drop, length-append, take-append-drop, length-drop}
 use lib.Seq.{take-at, drop-at, take-take, length-take-le}
 use borrow.Author.Tests.{eqb-true, ltb-true, lt-ltb, lt-leb}
 use Rattle.basics.specs.Lists.{drop-take}
@@ -246,3 +246,11 @@ numbers-take (w ∷ ws) l n h =
     ap₂ (λ (x : ℕ) (s : List ℕ). x ∷ s)
     (ap number (take-take (2 * w) n l (omega arith)))
     (ap (numbers ws) (drop-take (2 * w) n l) ∙ numbers-take ws (drop (2 * w) l) (n - 2 * w) (omega arith))
+
+-- one of the numbers that fit their widths
+pub fit-at : (ws xs : List ℕ) → allFit ws xs ≡ true → (k : ℕ) → k < length ws → getD xs k 0 < 256 ^ getD ws k 0
+unfolding allFit
+fit-at [] xs e k h = absurd (omega arith)
+fit-at (w ∷ ws) [] e k h = absurd (true≢false (sym e))
+fit-at (w ∷ ws) (x ∷ xs) e zero h = ltb-true x (256 ^ w) (and-left (ltb x (256 ^ w)) (allFit ws xs) e)
+fit-at (w ∷ ws) (x ∷ xs) e (suc k) h = fit-at ws xs (and-right (ltb x (256 ^ w)) (allFit ws xs) e) k (omega arith)

@@ -10,9 +10,9 @@ use Rattle.frame.specs.declared.Heading.{Heading}
 use Rattle.frame.specs.declared.Reading.{Reading}
 use Rattle.roster.specs.Mask.{bit}
 use Rattle.frame.specs.Hex.{digit, isDigit, valueOf, allDigits, number, numbers, total}
-use Rattle.frame.specs.Layout.{limit, widths, count, lineLength}
+use Rattle.frame.specs.Layout.{limit, widths, withValues, count, lineLength}
 use Rattle.frame.specs.Kinds.{uses, isKind, zeroUnless}
-use Rattle.frame.specs.Format.{frameOf, lineFeed, nothing, readingOf}
+use Rattle.frame.specs.Format.{frameOf, lineFeed, blank, nothing, readingOf, headWith, headOf}
 
 -- the digit that a character is; for what is none a full stop, which is more than any digit
 abbrev pub fullStop : ℕ
@@ -47,29 +47,15 @@ unfoldable pub properHeader : List ℕ → Bool
 properHeader h =
     isKind (getD h 0 0) && ((leb (getD h 6 0) limit && leb (getD h 7 0) limit) && zeroUnless (getD uses (getD h 0 0) []) h)
 
--- the heading with these values of the fields, in the header's order; a header's, whose values fit their widths; and that of no frame
-abbrev headingWith : Bool → List ℕ → Heading
-headingWith found h =
-    record {
-      found = found;
-      kind = getD h 0 0;
-      sender = getD h 1 0;
-      view = record { 0 = getD h 2 0 };
-      ballot = record { 0 = getD h 3 0 };
-      proven = record { 0 = getD h 4 0 };
-      mask = getD h 5 0;
-      n = getD h 6 0;
-      m = getD h 7 0;
-    }
-
+-- a header's values that fit their widths, the heading that they are, and that of no frame
 abbrev pub Fitting : List ℕ → Type 0
 Fitting h = (k : ℕ) → k < 8 → getD h k 0 < 256 ^ getD widths k 0
 
 abbrev pub headingOf : List ℕ → Heading
-headingOf h = headingWith true h
+headingOf h = headOf (withValues h [])
 
 abbrev pub noHeading : Heading
-noHeading = headingWith false []
+noHeading = headWith false blank
 
 -- a line that is long enough, whose header's digits spell proper values
 pub record Headed (l : List ℕ) : Type 0 where

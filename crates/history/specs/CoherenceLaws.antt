@@ -1,11 +1,11 @@
 -- Histories that are compatible in pairs have one common extension, and order conflicting commands alike.
-use mathlib.Core.Path.{_≡_, refl, sym, ap, _∙_, subst}
-use mathlib.Core.Bool.{Bool, true, false, not, cond, _&&_, _||_, true≢false}
-use mathlib.Core.List.{List, [], _∷_, _++_, List·Memᴰ}
+use mathlib.Core.Path.{_≡_, refl, sym, subst}
+use mathlib.Core.Bool.{false}
+use mathlib.Core.List.{List, [], _∷_, _++_}
 use Prim.Native.Nat.{ℕ}
 use Rattle.command.specs.Command.{conflict}
-use Rattle.history.specs.History.{Equivalent, same, swap, keep, trans, Extends, Compatible, Least}
-use Rattle.history.specs.TakesLaws.{Takes, here, there, no-pass, apart-sym, takes-equivalent, takes-unique, Diamond, one, both, takes-diamond, Taken, taken, takes-along, Exchange, exchange, takes-exchange}
+use Rattle.history.specs.History.{Extends, Compatible, Least}
+use Rattle.history.specs.TakesLaws.{Takes, here, there, no-pass, apart-sym, takes-equivalent, takes-unique, Diamond, one, both, takes-diamond, Exchange, exchange, takes-exchange}
 use Rattle.history.specs.ExtensionLaws.{extended-along, extends-refl, extends-trans, Below, none, take, below-extends, extends-below}
 
 -- ---- a command and a history that does not hold it

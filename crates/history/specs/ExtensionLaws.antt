@@ -34,9 +34,6 @@ extends-along e p = record { x = p .x; equivalent = trans (p .equivalent) e }
 pub extended-along : {f g h : List ℕ} → Equivalent f g → Extends h f → Extends h g
 extended-along e p = record { x = p .x; equivalent = trans (equivalent-behind (p .x) (equivalent-sym e)) (p .equivalent) }
 
-pub equivalent-extends : {g h : List ℕ} → Equivalent g h → Extends h g
-equivalent-extends {g} e = extends-along e (extends-refl g)
-
 pub extends-length : {g h : List ℕ} → Extends h g → length g ≤ length h
 extends-length {g} p = omega (arith, equivalent-length (p .equivalent), length-append g (p .x))
 

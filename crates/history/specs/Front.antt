@@ -1,9 +1,9 @@
 -- Bringing the commands of one history to the front of another, past commands that they don't conflict with: how extension is tested in place.
-use mathlib.Core.Bool.{Bool, true, false, cond}
-use mathlib.Core.List.{List, [], _∷_, _++_}
+use mathlib.Core.Bool.{cond}
+use mathlib.Core.List.{List, [], _∷_}
 use Prim.Native.Nat.{ℕ, zero, suc, _-_}
 use lib.Dec.{eqb}
-use lib.ListN.{length, take, drop, getD}
+use lib.ListN.{length, getD}
 use Rattle.command.specs.Command.{conflict}
 use Rattle.history.specs.History.{comesOff, without}
 

@@ -1,6 +1,6 @@
 -- The canonical order by insertion, which is quicker: each command goes to its place among those before it.
 -- `arrange-canonical` and `stays-canonical` (InsertionLaws.antt) say that this is the order of History.antt.
-use mathlib.Core.Bool.{Bool, true, false, not, cond, _&&_, _||_}
+use mathlib.Core.Bool.{Bool, true, not, cond, _&&_}
 use mathlib.Core.List.{List, [], _∷_, _++_}
 use Prim.Native.Nat.{ℕ, zero, suc, _≤_}
 use lib.Dec.{eqb, ltb}

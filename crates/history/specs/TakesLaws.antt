@@ -1,14 +1,12 @@
 -- Taking a command off the front of a history, past commands that it does not conflict with.
 use mathlib.Core.Path.{_≡_, refl, sym, ap, _∙_, subst}
-use mathlib.Core.Logic.{_⊎_, inl, inr, ⊎-elim}
-use mathlib.Core.Bool.{Bool, true, false, not, cond, _&&_, _||_, true≢false}
-use mathlib.Core.List.{List, [], _∷_, _++_, append-nil, append-assoc}
-use Prim.Native.Nat.{ℕ, zero, suc}
+use mathlib.Core.Bool.{false, true≢false}
+use mathlib.Core.List.{List, _∷_, _++_}
+use Prim.Native.Nat.{ℕ, suc}
 use lib.ListN.{length}
-use native.Mathlib.Omega.{arith}
 use Rattle.command.specs.Command.{conflict}
 use Rattle.command.specs.CommandLaws.{conflict-refl, conflict-sym}
-use Rattle.history.specs.History.{Equivalent, same, swap, keep, trans, Extends}
+use Rattle.history.specs.History.{Equivalent, same, swap, keep, trans}
 
 -- c can be taken off the front of h, which leaves k
 pub data Takes (c : ℕ) : List ℕ → List ℕ → Type 0 where
@@ -94,36 +92,18 @@ takes-along (keep e) (here f) = taken (here f) e
 takes-along (keep {c = x} e) (there q t) = under x q (takes-along e t)
 takes-along (trans e f) t = chain (takes-along e t) (λ l u. takes-along f u)
 
--- equivalent histories with the same first command have equivalent rests
-pub equivalent-tail : {c : ℕ} {g h : List ℕ} → Equivalent (c ∷ g) (c ∷ h) → Equivalent g h
-equivalent-tail {c} {g} {h} e = rest (takes-along e (here refl))
-  where
-    rest : Taken c g (c ∷ h) → Equivalent g h
-    rest (taken t f) = subst (λ (x : List ℕ). Equivalent g x) (takes-unique t (here refl)) f
-
 pub equivalent-length : {g h : List ℕ} → Equivalent g h → length g ≡ length h
 equivalent-length same = refl
 equivalent-length (swap p) = refl
 equivalent-length (keep e) = ap suc (equivalent-length e)
 equivalent-length (trans e f) = equivalent-length e ∙ equivalent-length f
 
--- more behind two equivalent histories, and more before them
-pub equivalent-before : (f : List ℕ) {g h : List ℕ} → Equivalent g h → Equivalent (f ++ g) (f ++ h)
-equivalent-before [] e = e
-equivalent-before (c ∷ f) e = keep (equivalent-before f e)
-
+-- more behind two equivalent histories
 pub equivalent-behind : {g h : List ℕ} (x : List ℕ) → Equivalent g h → Equivalent (g ++ x) (h ++ x)
 equivalent-behind x same = same
 equivalent-behind x (swap p) = swap p
 equivalent-behind x (keep e) = keep (equivalent-behind x e)
 equivalent-behind x (trans e f) = trans (equivalent-behind x e) (equivalent-behind x f)
-
-pub equivalent-nil : {h : List ℕ} → Equivalent [] h → h ≡ []
-equivalent-nil {h} e = empty h (sym (equivalent-length e))
-  where
-    empty : (l : List ℕ) → length l ≡ 0 → l ≡ []
-    empty [] z = refl
-    empty (c ∷ l) z = absurd (omega (arith, z))
 
 pub equivalent-refl : {g h : List ℕ} → g ≡ h → Equivalent g h
 equivalent-refl {g} e = subst (λ (x : List ℕ). Equivalent g x) e same

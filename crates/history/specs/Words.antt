@@ -12,6 +12,10 @@ use Rattle.history.specs.History.{validHistory, extends}
 abbrev pub limit : ℕ
 limit = 32
 
+-- the history by value of its count and its words
+abbrev pub historyOf : ℕ → List ℕ → History
+historyOf count words = record { count = count; words = words }
+
 -- the commands of a history by value: its first `count` words
 abbrev pub commands : History → List ℕ
 commands h = take (h .count) (h .words)

@@ -7,7 +7,6 @@ use mathlib.Core.Bool.{true}
 use borrow.Author.Tests.{le-leb, leb-true}
 use lib.Dec.{leb}
 use lib.ListN.{length, take, length-take}
-use lib.Seq.{take-all}
 use Rattle.basics.specs.Bools.{and-left, and-right}
 pub use Rattle.words.specs.WordsLaws.{length-padded, take-padded}
 use Rattle.words.specs.WordsLaws.{padded-first}
@@ -32,10 +31,6 @@ pub stored-first : (l : List ℕ) → stored (take limit l) ≡ stored l
 stored-first l =
     let counts : min (length (take limit l)) limit ≡ min (length l) limit = rw length-take (omega arith) in
     λ i. record { count = counts i; words = padded-first limit l i }
-
--- 32 words hold at most 32 commands, so taking the first 32 of them takes all
-pub commands-whole : (h : History) → length (h .words) ≤ limit → take limit (commands h) ≡ commands h
-commands-whole h p = take-all limit (commands h) (rw length-take (omega arith))
 
 -- within its length, the code's test of extension is the test
 pub extends-within : (n : ℕ) (h g : List ℕ) → length h ≤ n → extendsWithin n h g ≡ extends h g

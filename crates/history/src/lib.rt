@@ -6,6 +6,7 @@ ghost use lib.ListN.{length, take, drop, getD};
 ghost use Rattle.history.specs.History as spec;
 ghost use Rattle.history.specs.Insertion as insertion;
 ghost use Rattle.history.specs.Front as front;
+ghost use Rattle.history.specs.Words.{historyOf, validStored};
 ghost use Rattle.history.specs.Words as words;
 ghost use Rattle.history.specs.Marks as marks;
 pub use words::fill;
@@ -115,6 +116,18 @@ pub fn valid(h: &[u64]) -> bool
         return false;
     }
     is_canonical(h)
+}
+
+// Whether the history of this count and these words may be lent: at most 32 commands, and valid.
+pub fn lendable(count: u8, words: &[u64]) -> bool
+    ensures { λ r. ⌜ r ≡ validStored (historyOf count (now (words .entry))) ⌝ }
+{
+    let n = count as usize;
+    let fits = n <= History::LIMIT;
+    if !fits {
+        return false;
+    }
+    valid(first(words, n))
 }
 
 // Whether a list that a frame carries is refused with HISTORY: a proposer and serial twice, not in canonical order, or empty.
@@ -315,20 +328,6 @@ impl History {
                 count: 32,
                 words: w,
             }
-        }
-    }
-
-    // Whether this history may be lent: at most 32 commands, and valid.
-    pub fn is_valid(self) -> bool
-        ensures { λ r. ⌜ r ≡ words.validStored self ⌝ }
-    {
-        let n = self.count as usize;
-        let fits = n <= Self::LIMIT;
-        if fits {
-            let w: &[u64] = &self.words;
-            valid(&w[..n])
-        } else {
-            false
         }
     }
 }

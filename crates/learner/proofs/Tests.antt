@@ -1,13 +1,13 @@
 -- What the code's tests say in the words of the definitions.
 use mathlib.Core.Path.{_≡_, refl, sym, ap, _∙_}
-use mathlib.Core.Bool.{Bool, true, false, cond, _&&_, _||_}
+use mathlib.Core.Bool.{Bool, true, false, cond}
 use mathlib.Core.List.{List}
 use Prim.Native.Nat.{ℕ, _≤_}
 use native.Mathlib.Omega.{arith}
-use borrow.Author.Tests.{le-leb}
-use lib.Dec.{leb, eqb}
+use lib.Dec.{leb}
 use lib.ListN.{length}
 use Rattle.history.specs.declared.History.{History}
+use Rattle.history.specs.Words.{historyOf}
 use Rattle.history.specs.History.{extends}
 use Rattle.history.specs.Words.{limit, extendsWithin}
 use Rattle.history.specs.WordsLaws.{extends-within}
@@ -25,7 +25,7 @@ use Rattle.refusal.specs.Rules.{judged}
 use Rattle.learner.specs.declared.State.{State}
 use Rattle.learner.specs.declared.Verdict.{Verdict}
 use Rattle.learner.specs.Learner.{contradicts}
-use Rattle.learner.specs.Verdict.{historyOf, refusing, ruled, backs, stands, standing, enough, none, against, merging, favour, mergeChecks, onMerge, onEntry, settled}
+use Rattle.learner.specs.Verdict.{refusing, ruled, backs, standing, enough, none, against, merging, favour, onMerge, onEntry, settled}
 
 -- what the code's test of a row's support says
 pub backs-is : (words counts h : List ℕ) (i : ℕ) (entry : List ℕ) (b : Bool) → entry ≡ row words counts i → b ≡ extendsWithin 64 entry h → backs words counts h i ≡ b

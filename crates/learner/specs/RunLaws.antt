@@ -184,17 +184,6 @@ entered-or-later {line = line} h i p (inl e) = inl (extends-trans (step-advance 
 entered-or-later h i p (inr (later v)) = inr v
 entered-or-later {line = line} h i p (inr (now a e f)) = inl (vote-row line h i p a e f)
 
--- an accepted vote leaves its site's entry extending it, then and after any more lines
-voted-entered′ : {r : Roster} {s : State} (lines : List (List ℕ)) (h : List ℕ) (i : ℕ) → Sound r s → Voted r i h s lines → Entered (run r s lines) h i
-unfolding run
-voted-entered′ (line ∷ lines) h i p (later v) = voted-entered′ lines h i (step-advance p line .sound) v
-voted-entered′ {r} {s} (line ∷ lines) h i p (now a e f) =
-    extends-trans (run-advance (step-advance p line .sound) lines .entries-grow i) (vote-row line h i p a e f)
-
-pub voted-entered : (r : Roster) → validRoster r ≡ true → (i : ℕ) (h : List ℕ) (lines : List (List ℕ)) → Voted r i h fresh lines
-    → Extends (rowOf (run r fresh lines .entries) i) h
-voted-entered r e i h lines v = voted-entered′ lines h i (fresh-sound r e) v
-
 -- the vote at which each site of p has entered h makes h learned
 learned-now : {r : Roster} {s : State} (line : List ℕ) (p : ℕ → Bool) (h : List ℕ) → Sound r s → quorum r ≤ countTo (r .n) p
     → ((i : ℕ) → i < r .n → p i ≡ true → Entered (step r s line .state) h i) → step r s line .answer ≡ Accepted → arrived (vote line) ≡ h

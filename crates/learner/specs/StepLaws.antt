@@ -120,10 +120,6 @@ pub record Sound (r : Roster) (s : State) : Type 0 where
   pub entries : validTable (r .n) (s .entries) ≡ true
   pub learned : validStored (s .learned) ≡ true
 
-pub sound-config : {r : Roster} {s : State} → Sound r s → config r s ≡ false
-unfolding config
-sound-config p = rw (p .roster, p .entries, p .learned)
-
 pub config-sound : {r : Roster} {s : State} → Sized (s .entries) → config r s ≡ false → Sound r s
 unfolding config
 config-sound {r} {s} z e =

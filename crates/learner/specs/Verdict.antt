@@ -10,7 +10,7 @@ use Rattle.roster.specs.Roster.{quorum}
 use Rattle.roster.specs.Sites.{countTo}
 use Rattle.history.specs.declared.History.{History as Stored}
 use Rattle.history.specs.History.{extends, improper}
-use Rattle.history.specs.Words.{limit}
+use Rattle.history.specs.Words.{limit, historyOf}
 use Rattle.merge.specs.Merged.{merged}
 use Rattle.table.specs.Table.{row, tableOf, storedAt}
 use Rattle.refusal.specs.declared.Refusal.{Refusal}
@@ -26,10 +26,7 @@ use Rattle.learner.specs.declared.Outcome.{Outcome}
 use Rattle.learner.specs.declared.Answered.{Answered}
 use Rattle.learner.specs.Learner.{config, sender, stale, proof, wrong, contradicts, arrived}
 
--- a history of these parts, and a state: the entries' words and counts, and what is learned
-abbrev pub historyOf : ℕ → List ℕ → Stored
-historyOf count words = record { count = count; words = words }
-
+-- a state of these parts: the entries' words and counts, and what is learned
 abbrev pub stateOf : List ℕ → List ℕ → List ℕ → ℕ → State
 stateOf words counts past count = record { entries = tableOf words counts; learned = historyOf count past }
 

@@ -7,6 +7,7 @@ ghost use Rattle.roster.specs.Sites.{countTo};
 ghost use Rattle.table.specs.Table.{tableOf, storedAt};
 ghost use Rattle.frame.specs.Format.{frameWith, readingWith};
 ghost use Rattle.learner.specs.Learner as spec;
+ghost use Rattle.history.specs.Words.{historyOf};
 ghost use Rattle.learner.specs.Verdict as verdict;
 use frame::Heading;
 use history::History;
@@ -70,12 +71,8 @@ fn config<'a>(r: Roster, words: &'a [u64], counts: &'a [u8], past: &[u64], count
     if !rows {
         return true;
     }
-    let short = count as usize <= History::LIMIT;
-    if !short {
-        return true;
-    }
-    let history = history::valid(history::first(past, count as usize));
-    !history
+    let kept = history::lendable(count, past);
+    !kept
 }
 
 // Whether site i stands behind h once `site` has voted for it.
@@ -284,7 +281,7 @@ fn judge<'a>(
 
 // What is learned after a verdict: the first n words of `next`, if it learns.
 fn keep(learns: bool, n: u8, next: [u64; 32], count: &mut u8, learned: &mut [u64; 32])
-    ensures { λ r. ⌜ verdict.historyOf (now (count .exit)) (now (learned .exit)) ≡ cond learns (verdict.historyOf n next) (verdict.historyOf (now (count .entry)) (now (learned .entry))) ⌝ }
+    ensures { λ r. ⌜ historyOf (now (count .exit)) (now (learned .exit)) ≡ cond learns (historyOf n next) (historyOf (now (count .entry)) (now (learned .entry))) ⌝ }
 {
     if learns {
         *count = n;

@@ -3,10 +3,9 @@ use mathlib.Core.Path.{_≡_, refl}
 use mathlib.Core.Bool.{false}
 use mathlib.Core.List.{List, [], _∷_}
 use Prim.Native.Nat.{ℕ}
-use Rattle.history.specs.History.{Compatible, Least, repeated}
+use Rattle.history.specs.History.{Least, repeated}
 use Rattle.history.specs.ExtensionLaws.{extends-refl, extends-trans}
 use Rattle.history.specs.CoherenceLaws.{ExtendsAll, no-more, and, CompatibleWith, no-other, other, Pairwise, no-pair, pairs, least-with}
-use Rattle.merge.specs.Merge.{appended}
 use Rattle.merge.specs.MergeLaws.{appended-least, appended-distinct}
 
 -- each of some lists repeats no request

@@ -16,7 +16,7 @@ use lib.Pow.{pow-pos, pow-mono, split, high, low, field, mod-mod-pow, shr-shr, s
 use borrow.Author.Tests.{leb-true, leb-false, le-leb, lt-leb, lt-ltb, le-ltb}
 use Rattle.basics.specs.Bools.{true-or-false}
 use Rattle.roster.specs.Sites.{toNat, countTo, maskTo}
-use Rattle.roster.specs.SitesLaws.{lt-or-le, last-or-below, toNat-le, count-cong, mask-suc, mask-cong}
+use Rattle.roster.specs.SitesLaws.{lt-or-le, last-or-below, toNat-le, count-cong, mask-suc}
 use Rattle.roster.specs.Mask.{bit, reaches, beyond, withSite}
 
 -- ---- a bit
@@ -93,19 +93,6 @@ ones-count (suc n) mask h =
     ∙ ap₂ _+_ (ones-count n (mask % 2 ^ n) lo ∙ count-cong n (bit (mask % 2 ^ n)) (bit mask) (λ i l. bit-mod mask n i l))
     (ones-digit (mask / 2 ^ n) (top-lt mask n h) ∙ sym (top-bit mask n h))
 
--- a number below 2 ^ n is the mask of its bits
-pub mask-of-bits : (n mask : ℕ) → mask < 2 ^ n → maskTo n (bit mask) ≡ mask
-unfolding maskTo
-mask-of-bits zero mask h = sym (lt-one h)
-mask-of-bits (suc n) mask h =
-    ap₂ (λ (x y : ℕ). x * 2 ^ n + y) (top-bit mask n h)
-    (mask-cong n (bit mask) (bit (mask % 2 ^ n)) (λ i l. sym (bit-mod mask n i l)) ∙ mask-of-bits n (mask % 2 ^ n) (mod-lt mask (pow-pos n)))
-    ∙ split mask n
-
--- two masks with the same bits are one
-pub mask-ext : (n a b : ℕ) → a < 2 ^ n → b < 2 ^ n → ((i : ℕ) → i < n → bit a i ≡ bit b i) → a ≡ b
-mask-ext n a b ha hb h = sym (mask-of-bits n a ha) ∙ mask-cong n (bit a) (bit b) h ∙ mask-of-bits n b hb
-
 -- ---- the mask of a set of sites
 
 -- it fits n bits; its bits below n are p's, and it has none from n on
@@ -135,11 +122,7 @@ mask-bit-is n p i =
     (λ l. mask-bit-out n p i l ∙ ap (λ (b : Bool). b && p i) (sym (le-ltb i n l)))
     (lt-or-le i n)
 
--- so its ones are the sites counted
-pub ones-mask : (n : ℕ) (p : ℕ → Bool) → ones (maskTo n p) ≡ countTo n p
-ones-mask n p = ones-count n (maskTo n p) (mask-lt n p) ∙ count-cong n (bit (maskTo n p)) p (mask-bit n p)
-
--- ---- enough ones: at least t, of the mask, of the first n sites, of the sites that have p
+-- ---- enough ones: at least t, of the mask, of the first n sites
 
 pub reaches-iff : (mask t : ℕ) → (reaches mask t ≡ true) ↔ (t ≤ ones mask)
 unfolding reaches
@@ -148,14 +131,6 @@ reaches-iff mask t = (leb-true t (ones mask), le-leb t (ones mask))
 pub reaches-count : (n mask t : ℕ) → mask < 2 ^ n → reaches mask t ≡ leb t (countTo n (bit mask))
 unfolding reaches
 reaches-count n mask t h = ap (leb t) (ones-count n mask h)
-
-pub reaches-mask : (n : ℕ) (p : ℕ → Bool) (t : ℕ) → reaches (maskTo n p) t ≡ leb t (countTo n p)
-unfolding reaches
-reaches-mask n p t = ap (leb t) (ones-mask n p)
-
--- a mask that reaches a threshold reaches every lower one
-pub reaches-less : (mask t u : ℕ) → t ≤ u → reaches mask u ≡ true → reaches mask t ≡ true
-reaches-less mask t u l e = reaches-iff mask t .1 (le-trans l (reaches-iff mask u .0 e))
 
 -- ---- bits at n or above
 
@@ -203,9 +178,6 @@ inside-bit mask n e i l = bit-out mask n i (beyond-false mask n .0 e) l
 
 pub inside-ones : (mask n : ℕ) → beyond mask n ≡ false → ones mask ≡ countTo n (bit mask)
 inside-ones mask n e = ones-count n mask (beyond-false mask n .0 e)
-
-pub inside-mask : (mask n : ℕ) → beyond mask n ≡ false → maskTo n (bit mask) ≡ mask
-inside-mask mask n e = mask-of-bits n mask (beyond-false mask n .0 e)
 
 -- the mask of a set of sites below n has none
 pub mask-inside : (n : ℕ) (p : ℕ → Bool) → beyond (maskTo n p) n ≡ false

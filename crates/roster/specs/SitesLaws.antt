@@ -2,9 +2,9 @@
 -- compare. A loop over sites counts up from 0, so "one more" is also stated at the code's `n + 1`.
 use Prim.Native.Nat.{ℕ, zero, suc, _+_, _*_, _^_, _≤_, _<_, zero-le}
 use mathlib.Core.Path.{_≡_, refl, sym, ap, ap₂, _∙_}
-use mathlib.Core.Logic.{_⊎_, inl, inr, ⊎-elim, _↔_}
-use mathlib.Core.Bool.{Bool, true, false, not, _&&_, and-true, true≢false}
-use native.Mathlib.Nat.{le-refl, le-of-eq, le-step, lt-suc-self, not-suc-le-zero, le-of-suc-le-suc, eq-or-lt-of-le, le-add-right, add-zero, add-suc, zero-mul, zero-add}
+use mathlib.Core.Logic.{_⊎_, inl, inr, ⊎-elim}
+use mathlib.Core.Bool.{Bool, true, false, not, _&&_, true≢false}
+use native.Mathlib.Nat.{le-refl, le-of-eq, le-step, lt-suc-self, not-suc-le-zero, le-of-suc-le-suc, eq-or-lt-of-le, add-zero, zero-mul, zero-add}
 use native.Mathlib.Numerals.{add-one}
 use native.Mathlib.Omega.{arith}
 use lib.Dec.{ltb}
@@ -74,14 +74,6 @@ unfolding countTo
 count-cong zero p q h = refl
 count-cong (suc n) p q h = ap₂ (λ (k : ℕ) (b : Bool). k + toNat b) (count-cong n p q (λ i l. h i (le-step l))) (h n (lt-suc-self n))
 
--- sites from n on that have not p don't count
-pub count-past : (n d : ℕ) (p : ℕ → Bool) → ((i : ℕ) → n ≤ i → p i ≡ false) → countTo (n + d) p ≡ countTo n p
-unfolding countTo
-count-past n zero p h = ap (λ (k : ℕ). countTo k p) (add-zero n)
-count-past n (suc d) p h =
-    ap (λ (k : ℕ). countTo k p) (add-suc n d) ∙ ap (λ (b : Bool). countTo (n + d) p + toNat b) (h (n + d) (le-add-right n d))
-    ∙ add-zero (countTo (n + d) p) ∙ count-past n d p h
-
 -- some site has p, if any is counted
 pub count-some : (n : ℕ) (p : ℕ → Bool) → 0 < countTo n p → (i : ℕ) × (i < n) × (p i ≡ true)
 unfolding countTo
@@ -90,13 +82,6 @@ count-some (suc n) p h =
     ⊎-elim (λ e. (n, lt-suc-self n, e))
     (λ e. let s = count-some n p (omega (arith, h, ap toNat e)) in (s .0, le-step (s .1), s .2))
     (true-or-false (p n))
-
--- a site that has p is counted
-pub some-count : (n : ℕ) (p : ℕ → Bool) (i : ℕ) → i < n → p i ≡ true → 0 < countTo n p
-unfolding countTo
-some-count zero p i l e = absurd (not-suc-le-zero l)
-some-count (suc n) p i l e =
-    ⊎-elim (λ s. omega (arith, ap (λ (k : ℕ). toNat (p k)) (sym s) ∙ ap toNat e)) (λ k. omega (arith, some-count n p i k e)) (last-or-below l)
 
 -- those that have p and those that have q share all but n of their number
 pub count-both : (n : ℕ) (p q : ℕ → Bool) → countTo n p + countTo n q ≤ n + countTo n (λ i. p i && q i)
@@ -137,30 +122,9 @@ unfolding allTo
 each-all zero p h = refl
 each-all (suc n) p h = and-both (allTo n p) (p n) (each-all n p (λ i l. h i (le-step l))) (h n (lt-suc-self n))
 
-pub all-iff : (n : ℕ) (p : ℕ → Bool) → (allTo n p ≡ true) ↔ ((i : ℕ) → i < n → p i ≡ true)
-all-iff n p = (all-each n p, each-all n p)
-
 -- an early stop: one site has not p
 pub all-stop : (n : ℕ) (p : ℕ → Bool) (i : ℕ) → i < n → p i ≡ false → allTo n p ≡ false
 all-stop n p i l e = ⊎-elim (λ a. absurd (true≢false (sym (all-each n p a i l) ∙ e))) (λ a. a) (true-or-false (allTo n p))
-
--- where not all have p, some site has not
-pub not-all : (n : ℕ) (p : ℕ → Bool) → allTo n p ≡ false → (i : ℕ) × (i < n) × (p i ≡ false)
-unfolding allTo
-not-all zero p a = absurd (true≢false a)
-not-all (suc n) p a =
-    ⊎-elim
-    (λ e.
-    let s = not-all n p (sym (and-true (allTo n p)) ∙ ap (λ (b : Bool). allTo n p && b) (sym e) ∙ a) in
-    (s .0, le-step (s .1), s .2))
-    (λ e. (n, lt-suc-self n, e))
-    (true-or-false (p n))
-
--- the same where the same have it
-pub all-cong : (n : ℕ) (p q : ℕ → Bool) → ((i : ℕ) → i < n → p i ≡ q i) → allTo n p ≡ allTo n q
-unfolding allTo
-all-cong zero p q h = refl
-all-cong (suc n) p q h = ap₂ _&&_ (all-cong n p q (λ i l. h i (le-step l))) (h n (lt-suc-self n))
 
 -- ---- the mask
 

@@ -1,24 +1,23 @@
 -- Which messages have a line, and what their first list is; and that the numbers and words of a frame that was read fit their widths.
-use mathlib.Core.Path.{_≡_, refl, ap, subst, _∙_}
+use mathlib.Core.Path.{_≡_, refl, subst}
 use mathlib.Core.Bool.{true, false, false≢true}
 use mathlib.Core.List.{List, [], _∷_, _++_, append-nil}
-use Prim.Native.Nat.{ℕ, zero, suc, _-_, _^_, _≤_, _<_}
-use native.Mathlib.Nat.{not-suc-le-zero, le-of-suc-le-suc, sub-zero, suc-sub-suc}
+use Prim.Native.Nat.{ℕ, zero, suc, _^_, _≤_, _<_}
 use native.Mathlib.Omega.{arith}
 use borrow.Author.Tests.{ltb-true, lt-ltb, eq-eqb, not-false}
 use lib.Dec.{ltb, lit<}
-use lib.ListN.{length, getD, take, drop, replicate, length-append}
+use lib.ListN.{length, take, drop, length-append}
 use Rattle.basics.specs.Bools.{and-left, and-right}
 use Rattle.roster.specs.declared.View.{View}
 use Rattle.roster.specs.declared.Ballot.{Ballot}
-use Rattle.history.specs.Words.{limit, padded}
-use Rattle.history.specs.WordsLaws.{length-padded, take-padded}
+use Rattle.words.specs.Words.{padded}
+use Rattle.words.specs.WordsLaws.{length-padded, take-padded}
+use Rattle.history.specs.Words.{limit}
 use Rattle.history.specs.FitLaws.{EachFits, none, more, each-take, each-drop, each-append, each-padded}
-use Rattle.frame.specs.declared.Frame.{Frame}
-use Rattle.frame.specs.declared.Heading.{Heading}
 use Rattle.frame.specs.Hex.{allFit}
+use Rattle.frame.specs.HexLaws.{fit-at}
 use Rattle.frame.specs.Layout.{capacity, widths, values, first, second}
-use Rattle.frame.specs.Format.{readingOf, malformed, proper, allZero, writable, writtenLength, written, frameWith, frameFrom, listed, lengthFrom, writtenFrom}
+use Rattle.frame.specs.Format.{readingOf, malformed, proper, allZero, writable, writtenLength, written, headOf, listed, lengthFrom, writtenFrom}
 use Rattle.frame.specs.Format as format
 use Rattle.frame.specs.FormatLaws.{Written, writable-is, is-writable, found-writable}
 use Rattle.frame.specs.FromLaws.{from-listed}
@@ -41,16 +40,7 @@ fit-each zero (c ∷ l) e = absurd (false≢true e)
 fit-each (suc n) [] e = absurd (false≢true e)
 fit-each (suc n) (c ∷ l) e = more (ltb-true c (2 ^ 64) (and-left (ltb c (2 ^ 64)) _ e)) (fit-each n l (and-right (ltb c (2 ^ 64)) _ e))
 
--- numbers that fit their widths, one by one
-fit-at : (ws xs : List ℕ) → allFit ws xs ≡ true → (k : ℕ) → k < length xs → getD xs k 0 < 256 ^ getD ws k 0
-unfolding allFit
-fit-at [] [] e k h = absurd (not-suc-le-zero h)
-fit-at [] (x ∷ xs) e k h = absurd (false≢true e)
-fit-at (w ∷ ws) [] e k h = absurd (false≢true e)
-fit-at (w ∷ ws) (x ∷ xs) e zero h = ltb-true x (256 ^ w) (and-left (ltb x (256 ^ w)) (allFit ws xs) e)
-fit-at (w ∷ ws) (x ∷ xs) e (suc k) h = fit-at ws xs (and-right (ltb x (256 ^ w)) (allFit ws xs) e) k (le-of-suc-le-suc h)
-
--- those of a frame that FORM lets pass
+-- the words and numbers of a frame that FORM lets pass fit their widths
 module _ (line : List ℕ) (kinds : ℕ) (e : malformed line kinds ≡ false) where
   read-written : Written (readingOf line kinds .frame)
   unfolding malformed
@@ -116,52 +106,19 @@ module _ (kind own : ℕ) (view : View) (ballot proven : Ballot) (mask : ℕ) {h
 
 -- ---- the frame of a heading and two lists
 
--- zeros after a list, both ways that they are written
-zeros-padded : (n : ℕ) → replicate n 0 ≡ padded n []
-unfolding padded
-zeros-padded zero = refl
-zeros-padded (suc n) = ap (λ (l : List ℕ). 0 ∷ l) (zeros-padded n)
-
-padded-is : (n : ℕ) (l : List ℕ) → length l ≤ n → l ++ replicate (n - length l) 0 ≡ padded n l
-unfolding padded
-padded-is n [] p = rw sub-zero (zeros-padded n)
-padded-is zero (c ∷ l) p = absurd (omega arith)
-padded-is (suc n) (c ∷ l) p = rw suc-sub-suc (ap (λ (r : List ℕ). c ∷ r) (padded-is n l (omega arith)))
-
-abbrev pub headed : ℕ → ℕ → View → Ballot → Ballot → ℕ → List ℕ → List ℕ → Heading
-headed kind own view ballot proven mask h k =
-    record {
-      found = true;
-      kind = kind;
-      sender = own;
-      view = view;
-      ballot = ballot;
-      proven = proven;
-      mask = mask;
-      n = length h;
-      m = length k;
-    }
-
--- what is written of them is what is written of the message
-module _ (kind own : ℕ) (view : View) (ballot proven : Ballot) (mask : ℕ) (h k : List ℕ) (p : length h ≤ limit) (q : length k ≤ limit) (out : List ℕ) where
-  heading : Heading
-  heading = headed kind own view ballot proven mask h k
-
-  are-listed : listed heading h k ≡ true
-  unfolding listed heading
+-- what is written of a message's heading and its two lists is what is written of the message
+module _ (kind own : ℕ) (view : View) (ballot proven : Ballot) (mask : ℕ) (h k out : List ℕ) where
+  are-listed : listed (headOf (message kind own view ballot proven mask h k)) h k ≡ true
+  unfolding listed
   are-listed = rw (eq-eqb (length h) (length h) refl, eq-eqb (length k) (length k) refl)
 
-  same-frame : frameFrom heading h k ≡ message kind own view ballot proven mask h k
-  unfolding heading
-  same-frame = ap (frameWith heading) (padded-is capacity (h ++ k) (omega (arith, length-append h k)))
+  pub message-length : lengthFrom (headOf (message kind own view ballot proven mask h k)) h k out
+      ≡ writtenLength (message kind own view ballot proven mask h k) out
+  message-length = from-listed (headOf (message kind own view ballot proven mask h k)) h k out are-listed .0
 
-  pub message-length : lengthFrom (headed kind own view ballot proven mask h k) h k out ≡ writtenLength (message kind own view ballot proven mask h k) out
-  unfolding heading
-  message-length = from-listed heading h k out are-listed .0 ∙ ap (λ (f : Frame). writtenLength f out) same-frame
-
-  pub message-written : writtenFrom (headed kind own view ballot proven mask h k) h k out ≡ written (message kind own view ballot proven mask h k) out
-  unfolding heading
-  message-written = from-listed heading h k out are-listed .1 ∙ ap (λ (f : Frame). written f out) same-frame
+  pub message-written : writtenFrom (headOf (message kind own view ballot proven mask h k)) h k out
+      ≡ written (message kind own view ballot proven mask h k) out
+  message-written = from-listed (headOf (message kind own view ballot proven mask h k)) h k out are-listed .1
 
 -- ---- the lists of a message
 

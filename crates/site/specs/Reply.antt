@@ -1,4 +1,5 @@
 -- What a call of a role that sends does: its answer, the state after it, and at most one frame to send.
+use mathlib.Core.Path.{_≡_}
 use mathlib.Core.Bool.{Bool, cond}
 use mathlib.Core.List.{List}
 use Prim.Native.Nat.{ℕ}
@@ -38,3 +39,7 @@ lengthSent (sends m) out = writtenLength m out
 abbrev pub buffer : Sending → List ℕ → List ℕ
 buffer silent out = out
 buffer (sends m) out = written m out
+
+-- what a call that hands over a frame answers and leaves of the buffer: "its line at the front of the output buffer; the bytes after it stay"
+abbrev pub Handed : Sending → ℕ → List ℕ → List ℕ → Type 0
+Handed x k out left = (k ≡ lengthSent x out) × (left ≡ buffer x out)

@@ -1,12 +1,9 @@
 // A site: whether its roster, own number and lent buffer will do; the view-change record; and making and handing over the frame that it sends.
-ghost use mathlib.Core.List.{_++_};
 ghost use mathlib.Core.Path.{_≡_};
-ghost use lib.ListN.{length, take};
-ghost use Rattle.history.specs.Words.{padded};
+ghost use lib.ListN.{take};
 ghost use Rattle.site.specs.Site as spec;
 ghost use Rattle.site.specs.Reply as reply;
 ghost use Rattle.site.specs.Message as message;
-use frame::Frame;
 use frame::Heading;
 use history::History;
 use roster::Ballot;
@@ -54,17 +51,6 @@ pub fn seated(r: Roster, own: u8, room: usize) -> bool
     r.valid() & ((own < r.n) & (frame::LONGEST <= room))
 }
 
-// Fills dst with the words of g, those of h after them, and zeros.
-fn lay(dst: &mut [u64], g: &[u64], h: &[u64])
-    ensures { λ r. ⌜ now (dst .exit) ≡ padded (length (now (dst .entry))) (now (g .entry) ++ now (h .entry)) ⌝ }
-{
-    history::fill(dst, g);
-    let n = g.len();
-    if n <= dst.len() {
-        history::fill(&mut dst[n..], h);
-    }
-}
-
 // Writes the frame of these values at the front of the buffer, if it is to be sent, and answers the length of its line; 0 if not.
 pub fn send<'a>(
     sent: bool,
@@ -78,7 +64,7 @@ pub fn send<'a>(
     h: &'a [u64],
     out: &mut [u8],
 ) -> usize
-    ensures { λ k. ⌜ (k ≡ reply.lengthSent (reply.sendsIf sent (message.message kind own view ballot proven mask (take 32 (now (g .entry))) (take 32 (now (h .entry))))) (now (out .entry))) × (now (out .exit) ≡ reply.buffer (reply.sendsIf sent (message.message kind own view ballot proven mask (take 32 (now (g .entry))) (take 32 (now (h .entry))))) (now (out .entry))) ⌝ }
+    ensures { λ k. ⌜ reply.Handed (reply.sendsIf sent (message.message kind own view ballot proven mask (take 32 (now (g .entry))) (take 32 (now (h .entry))))) k (now (out .entry)) (now (out .exit)) ⌝ }
 {
     if !sent {
         return 0;
@@ -97,44 +83,4 @@ pub fn send<'a>(
         m: two.len() as u8,
     };
     frame::write_from(heading, one, two, out)
-}
-
-// A frame from `own` with two lists of commands: the first 32 of each.
-pub fn message<'a>(
-    kind: u8,
-    own: u8,
-    view: View,
-    ballot: Ballot,
-    proven: Ballot,
-    mask: u16,
-    g: &'a [u64],
-    h: &'a [u64],
-) -> Frame
-    ensures { λ m. ⌜ m ≡ message.message kind own view ballot proven mask (take 32 (now (g .entry))) (take 32 (now (h .entry))) ⌝ }
-{
-    let one = history::first(g, History::LIMIT);
-    let two = history::first(h, History::LIMIT);
-    let mut words = [0u64; 64];
-    lay(&mut words, one, two);
-    Frame {
-        kind,
-        sender: own,
-        view,
-        ballot,
-        proven,
-        mask,
-        n: one.len() as u8,
-        m: two.len() as u8,
-        words,
-    }
-}
-
-// Writes the frame at the front of the buffer if it is to be sent, and answers the length of its line; 0 if not.
-pub fn hand_over(sent: bool, m: Frame, out: &mut [u8]) -> usize
-    ensures { λ k. ⌜ (k ≡ reply.lengthSent (reply.sendsIf sent m) (now (out .entry))) × (now (out .exit) ≡ reply.buffer (reply.sendsIf sent m) (now (out .entry))) ⌝ }
-{
-    if sent {
-        return frame::write(m, out);
-    }
-    0
 }

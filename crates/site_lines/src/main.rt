@@ -6,6 +6,7 @@ use acceptor::State;
 use history::History;
 use libc::STDIN_FILENO;
 use libc::STDOUT_FILENO;
+use roster::Ballot;
 use roster::Roster;
 use site::ViewRecord;
 use table::Table;
@@ -124,18 +125,22 @@ fn accepting(marks: acceptor::Marks, held: History, proven: History, verified: T
     }
 }
 
+// What an acceptor's state keeps beside its histories.
+fn marks_in(s: State) -> acceptor::Marks {
+    let ballot = s.ballot;
+    let certified = s.certified;
+    acceptor::Marks {
+        ballot,
+        fast: s.fast,
+        signed: s.signed,
+        certified,
+        certificate: s.certificate,
+    }
+}
+
 // The acceptor's step on copies of the parts of its state: what it gives, and the state after it.
 fn step_acceptor(s: Site, line: &[u8], out: &mut [u8]) -> acceptor::Outcome {
     let before = s.state;
-    let ballot = before.ballot;
-    let certified = before.certified;
-    let marks = acceptor::Marks {
-        ballot,
-        fast: before.fast,
-        signed: before.signed,
-        certified,
-        certificate: before.certificate,
-    };
     let mut n = before.held.count;
     let mut held = before.held.words;
     let mut m = before.proven.count;
@@ -146,7 +151,7 @@ fn step_acceptor(s: Site, line: &[u8], out: &mut [u8]) -> acceptor::Outcome {
         s.roster,
         s.own,
         s.views,
-        marks,
+        marks_in(before),
         &mut n,
         &mut held,
         &mut m,
@@ -240,76 +245,122 @@ fn leading(o: leader::Settled, pending: History, proven: Table, held: Table) -> 
     }
 }
 
-// The site after a line for the leader, whose step is on copies of the parts of its state.
-fn lead(s: Site, line: &[u8], out: &mut [u8]) -> Site {
+// What the leader is called for: to open a ballot of this number and mode, or to hear a line.
+struct Request {
+    opens: bool,
+    ballot: Ballot,
+    fast: u8,
+}
+
+// A call of the leader on the lent parts of its state.
+fn call_leader(
+    s: Site,
+    asked: Request,
+    count: &mut u8,
+    words: &mut [u64; 32],
+    proven_counts: &mut [u8; 16],
+    proven_words: &mut [u64; 512],
+    held_counts: &mut [u8; 16],
+    held_words: &mut [u64; 512],
+    line: &[u8],
+    out: &mut [u8],
+) -> leader::Settled {
+    let marks = marks_of(s.leading);
+    let opens = asked.opens;
+    if opens {
+        return leader::open_in_place(
+            s.roster,
+            s.own,
+            marks,
+            count,
+            words,
+            proven_counts,
+            proven_words,
+            held_counts,
+            held_words,
+            asked.ballot,
+            asked.fast,
+            out,
+        );
+    }
+    leader::step_in_place(
+        s.roster,
+        s.own,
+        marks,
+        count,
+        words,
+        proven_counts,
+        proven_words,
+        held_counts,
+        held_words,
+        line,
+        out,
+    )
+}
+
+// The site after a call of its leader on copies of the parts of its state.
+fn lead(s: Site, asked: Request, line: &[u8], out: &mut [u8]) -> Site {
     let before = s.leading;
     let mut count = before.pending.count;
     let mut words = before.pending.words;
-    let mut pcounts = before.proven.counts;
-    let mut pwords = before.proven.words;
-    let mut hcounts = before.held.counts;
-    let mut hwords = before.held.words;
-    let o = leader::step_in_place(
-        s.roster,
-        s.own,
-        marks_of(before),
+    let mut proven_counts = before.proven.counts;
+    let mut proven_words = before.proven.words;
+    let mut held_counts = before.held.counts;
+    let mut held_words = before.held.words;
+    let o = call_leader(
+        s,
+        asked,
         &mut count,
         &mut words,
-        &mut pcounts,
-        &mut pwords,
-        &mut hcounts,
-        &mut hwords,
+        &mut proven_counts,
+        &mut proven_words,
+        &mut held_counts,
+        &mut held_words,
         line,
         out,
     );
     let pending = History { count, words };
     let proven = Table {
-        counts: pcounts,
-        words: pwords,
+        counts: proven_counts,
+        words: proven_words,
     };
     let held = Table {
-        counts: hcounts,
-        words: hwords,
+        counts: held_counts,
+        words: held_words,
     };
     led(s, leading(o, pending, proven, held), out)
+}
+
+// The site after a line for the leader.
+fn hear_leader(s: Site, line: &[u8], out: &mut [u8]) -> Site {
+    lead(
+        s,
+        Request {
+            opens: false,
+            ballot: Ballot(0),
+            fast: 0,
+        },
+        line,
+        out,
+    )
 }
 
 // The site after its host opened the ballot of a P1A or a FAST; a line that is neither counts as ballot 0.
 fn open_ballot(s: Site, line: &[u8], out: &mut [u8]) -> Site {
     let reading = frame::read(line, OPENING);
     let m = reading.frame;
+    let ballot = m.ballot;
     let fast: u8 = if m.kind == FAST { 1 } else { 0 };
-    let before = s.leading;
-    let mut count = before.pending.count;
-    let mut words = before.pending.words;
-    let mut pcounts = before.proven.counts;
-    let mut pwords = before.proven.words;
-    let mut hcounts = before.held.counts;
-    let mut hwords = before.held.words;
-    let o = leader::open_in_place(
-        s.roster,
-        s.own,
-        marks_of(before),
-        &mut count,
-        &mut words,
-        &mut pcounts,
-        &mut pwords,
-        &mut hcounts,
-        &mut hwords,
-        m.ballot,
-        fast,
+    lead(
+        s,
+        Request {
+            opens: true,
+            ballot,
+            fast,
+        },
+        line,
         out,
-    );
-    let pending = History { count, words };
-    let proven = Table {
-        counts: pcounts,
-        words: pwords,
-    };
-    let held = Table {
-        counts: hcounts,
-        words: hwords,
-    };
-    led(s, leading(o, pending, proven, held), out)
+    )
 }
 
 // The site after a line.
@@ -326,7 +377,7 @@ fn hear(s: Site, line: &[u8], out: &mut [u8]) -> Site {
         return restart(line);
     }
     if mark == b'>' {
-        return lead(s, rest(line), out);
+        return hear_leader(s, rest(line), out);
     }
     if mark == b'+' {
         return open_ballot(s, rest(line), out);

@@ -1,8 +1,8 @@
 -- Tables: one history a site, sixteen in all, in rows of 32 words. Row i is the 32 words from 32 * i on; its first words, as many as
 -- count i says, are the history, and the words after them mean nothing.
 use mathlib.Core.Bool.{Bool, cond, _&&_}
-use mathlib.Core.List.{List, [], _∷_, _++_}
-use Prim.Native.Nat.{ℕ, zero, suc, _+_, _*_}
+use mathlib.Core.List.{List, []}
+use Prim.Native.Nat.{ℕ, _+_, _*_}
 use lib.Dec.{leb, ltb, eqb}
 use lib.ListN.{length, take, drop, getD, set, replicate}
 use lib.Seq.{sets}
@@ -27,15 +27,6 @@ row words counts i = cond (inRange words counts i) (take (getD counts i 0) (drop
 abbrev pub rowOf : Table → ℕ → List ℕ
 rowOf t i = row (t .words) (t .counts) i
 
--- what f gives of the sites below n, in their order
-unfoldable pub listTo : ℕ → (ℕ → List ℕ) → List (List ℕ)
-listTo zero f = []
-listTo (suc n) f = listTo n f ++ (f n ∷ [])
-
--- all histories of a table
-unfoldable pub rows : Table → List (List ℕ)
-rows t = listTo sites (rowOf t)
-
 -- the table with l in row i: the count is l's length, the words are l with zeros after it; all else stays
 abbrev pub withRow : Table → ℕ → List ℕ → Table
 withRow t i l = record { counts = set (t .counts) i (length l); words = sets (t .words) (limit * i) (padded limit l) }
@@ -51,10 +42,6 @@ tableOf words counts = record { counts = counts; words = words }
 unfoldable pub storedIn : List ℕ → List ℕ → ℕ → List ℕ → Table
 storedIn words counts i l =
     cond (leb sites (length counts) && leb (limit * sites) (length words)) (storedAt (tableOf words counts) i l) (tableOf words counts)
-
--- row i emptied: the empty history stored there
-unfoldable pub emptiedAt : Table → ℕ → Table
-emptiedAt t i = storedAt t i []
 
 -- all counts and words 0, as at the start of a ballot
 unfoldable pub emptyTable : Table

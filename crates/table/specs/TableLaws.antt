@@ -4,16 +4,15 @@ use mathlib.Core.Logic.{_⊎_, inl, inr, ⊎-elim, _≢_}
 use mathlib.Core.Bool.{Bool, true, false, cond, and-false}
 use mathlib.Core.List.{List, [], _∷_, _++_, append-assoc}
 use Prim.Native.Nat.{ℕ, zero, suc, _+_, _-_, _*_, _≤_, _<_}
-use native.Mathlib.Decide.{ℕ-discrete}
 use native.Mathlib.Omega.{arith}
 use borrow.Author.Tests.{lt-ltb, le-ltb, le-leb, lt-leb}
-use lib.ListN.{length, take, drop, getD, set, replicate, getD-replicate, length-set, length-append, length-drop, length-replicate, List·getD-append, List·getD-eq-default}
-use lib.Seq.{sets, sets-eq, length-sets, length-take-le, take-append-le, take-set-le, drop-set-lt, drop-set-add, drop-at, getD-at, getD-set-same, getD-set-other, ext-getD}
-use Rattle.roster.specs.SitesLaws.{lt-or-le, last-or-below}
+use lib.ListN.{length, take, drop, getD, set, replicate, length-set, length-drop, length-replicate, List·getD-eq-default}
+use lib.Seq.{sets, sets-eq, length-sets, length-take-le, take-append-le, take-set-le, drop-set-lt, drop-set-add, drop-at, getD-set-same, getD-set-other}
+use Rattle.roster.specs.SitesLaws.{lt-or-le}
 use Rattle.history.specs.Words.{limit, padded}
 use Rattle.history.specs.WordsLaws.{length-padded, take-padded}
 use Rattle.table.specs.declared.Table.{Table}
-use Rattle.table.specs.Table.{sites, inRange, row, rowOf, listTo, rows, withRow, storedAt, tableOf, storedIn, emptiedAt, emptyTable}
+use Rattle.table.specs.Table.{sites, inRange, row, rowOf, withRow, storedAt, tableOf, storedIn, emptyTable}
 
 -- ---- sizes
 
@@ -21,11 +20,6 @@ use Rattle.table.specs.Table.{sites, inRange, row, rowOf, listTo, rows, 
 pub record Sized (t : Table) : Type 0 where
   pub counts-length : length (t .counts) ≡ sites
   pub words-length : length (t .words) ≡ limit * sites
-
--- and no count over 32
-pub record WellSized (t : Table) : Type 0 where
-  pub sized : Sized t
-  pub count-le : (i : ℕ) → getD (t .counts) i 0 ≤ limit
 
 -- ---- a row
 
@@ -86,18 +80,6 @@ within-length words counts i w =
 pub length-row : (words counts : List ℕ) (i : ℕ) → length (row words counts i) ≤ limit
 length-row words counts i =
     ⊎-elim (λ e. rw e (omega arith)) (λ w. omega (arith, within-length words counts i w)) (row-cases words counts i)
-
-pub length-row-of : (t : Table) (i : ℕ) → length (rowOf t i) ≤ limit
-length-row-of t i = length-row (t .words) (t .counts) i
-
-pub count-row : {t : Table} → WellSized t → (i : ℕ) → i < sites → length (rowOf t i) ≡ getD (t .counts) i 0
-count-row {t} w i p =
-    within-length (t .words) (t .counts) i
-    (record { counted = omega arith; worded = omega arith; count-le = w .count-le i })
-
--- there is no row past the last site
-pub row-of-past : {t : Table} → Sized t → (i : ℕ) → sites ≤ i → rowOf t i ≡ []
-row-of-past {t} s i p = row-past (t .words) (t .counts) i (omega arith)
 
 -- ---- a part of a list after stores
 
@@ -215,20 +197,6 @@ count-same counts i n =
     ⊎-elim (λ p. inl (getD-set-same counts i n 0 p)) (λ p. inr (List·getD-eq-default (set counts i n) 0 (rw (length-set counts i n) p)))
     (lt-or-le i (length counts))
 
-count-le-set : (counts : List ℕ) (i n : ℕ) → n ≤ limit → (j : ℕ) → getD counts j 0 ≤ limit → getD (set counts i n) j 0 ≤ limit
-count-le-set counts i n p j q =
-    elim (ℕ-discrete j i) [
-      | yes e ↦ rw e (⊎-elim (λ r. omega arith) (λ r. omega arith) (count-same counts i n))
-      | no e ↦ rw (getD-set-other counts i j n 0 e) q
-    ]
-
-pub stored-well-sized : {t : Table} → WellSized t → (i : ℕ) (l : List ℕ) → WellSized (storedAt t i l)
-stored-well-sized {t} w i l =
-    record {
-      sized = stored-sized (w .sized) i l;
-      count-le = λ j. stored-keeps (λ s. getD (s .counts) j 0 ≤ limit) t i l (w .count-le j) (λ p q. count-le-set (t .counts) i (length l) q j (w .count-le j));
-    }
-
 -- the rows after it: the stored list, and each other row as it was
 pub row-stored : {t : Table} → Sized t → (i : ℕ) (l : List ℕ) → i < sites → length l ≤ limit → rowOf (storedAt t i l) i ≡ l
 row-stored {t} s i l p q = rw (stored-is t i l p q) (row-same t i l (omega arith) (omega arith) q)
@@ -236,36 +204,6 @@ row-stored {t} s i l p q = rw (stored-is t i l p q) (row-same t i l (omega arith
 pub row-stored-other : (t : Table) (i : ℕ) (l : List ℕ) (j : ℕ) → j ≢ i → rowOf (storedAt t i l) j ≡ rowOf t j
 row-stored-other t i l j n =
     stored-keeps (λ s. rowOf s j ≡ rowOf t j) t i l refl (λ p q. row-other t i l j n)
-
--- the counts after it
-pub count-stored : {t : Table} → Sized t → (i : ℕ) (l : List ℕ) → i < sites → length l ≤ limit → getD (storedAt t i l .counts) i 0 ≡ length l
-count-stored {t} s i l p q = rw (stored-is t i l p q) (getD-set-same (t .counts) i (length l) 0 (omega arith))
-
-pub count-stored-other : (t : Table) (i : ℕ) (l : List ℕ) (j : ℕ) → j ≢ i → getD (storedAt t i l .counts) j 0 ≡ getD (t .counts) j 0
-count-stored-other t i l j n =
-    stored-keeps (λ s. getD (s .counts) j 0 ≡ getD (t .counts) j 0) t i l refl (λ p q. getD-set-other (t .counts) i j (length l) 0 n)
-
--- ---- a row forgotten
-
-pub emptied-is : (t : Table) (i : ℕ) → emptiedAt t i ≡ storedAt t i []
-unfolding emptiedAt
-emptied-is t i = refl
-
-pub emptied-past : (t : Table) (i : ℕ) → sites ≤ i → emptiedAt t i ≡ t
-emptied-past t i p = emptied-is t i ∙ stored-past t i [] p
-
-pub emptied-sized : {t : Table} → Sized t → (i : ℕ) → Sized (emptiedAt t i)
-emptied-sized {t} s i = rw (emptied-is t i) (stored-sized s i [])
-
-pub emptied-well-sized : {t : Table} → WellSized t → (i : ℕ) → WellSized (emptiedAt t i)
-emptied-well-sized {t} w i = rw (emptied-is t i) (stored-well-sized w i [])
-
-pub row-emptied : {t : Table} → Sized t → (i : ℕ) → rowOf (emptiedAt t i) i ≡ []
-row-emptied {t} s i =
-    ⊎-elim (λ p. rw (emptied-is t i) (row-stored s i [] p (omega arith))) (λ p. rw (emptied-past t i p) (row-of-past s i p)) (lt-or-le i sites)
-
-pub row-emptied-other : (t : Table) (i j : ℕ) → j ≢ i → rowOf (emptiedAt t i) j ≡ rowOf t j
-row-emptied-other t i j n = rw (emptied-is t i) (row-stored-other t i [] j n)
 
 -- ---- the empty table
 
@@ -283,57 +221,5 @@ pub empty-sized : Sized emptyTable
 unfolding emptyTable
 empty-sized = record { counts-length = length-replicate {A = ℕ} sites 0; words-length = length-replicate {A = ℕ} (limit * sites) 0 }
 
-pub empty-well-sized : WellSized emptyTable
-empty-well-sized = record { sized = empty-sized; count-le = λ i. omega (arith, count-empty i) }
-
 pub row-empty : (i : ℕ) → rowOf emptyTable i ≡ []
 row-empty i = row-none (emptyTable .words) (emptyTable .counts) i (count-empty i)
-
--- ---- all rows
-
--- there is one for each of n sites, and the one at i is that of i
-length-list : (n : ℕ) (f : ℕ → List ℕ) → length (listTo n f) ≡ n
-unfolding listTo
-length-list zero f = refl
-length-list (suc n) f = length-append (listTo n f) (f n ∷ []) ∙ omega (arith, length-list n f)
-
-getD-list : (n : ℕ) (f : ℕ → List ℕ) (i : ℕ) → i < n → getD (listTo n f) i [] ≡ f i
-unfolding listTo
-getD-list zero f i p = absurd (omega arith)
-getD-list (suc n) f i p =
-    ⊎-elim
-    (λ e. rw e (getD-at (listTo n f) (f n) [] [] n (length-list n f)))
-    (λ q. List·getD-append (listTo n f) (f n ∷ []) [] i (omega (arith, length-list n f)) ∙ getD-list n f i q)
-    (last-or-below p)
-
-pub length-rows : (t : Table) → length (rows t) ≡ sites
-unfolding rows
-length-rows t = length-list sites (rowOf t)
-
-pub rows-row : (t : Table) (i : ℕ) → i < sites → getD (rows t) i [] ≡ rowOf t i
-unfolding rows
-rows-row t i p = getD-list sites (rowOf t) i p
-
--- they are a list of sixteen that has each of them at its place
-pub rows-are : (t : Table) (ls : List (List ℕ)) → length ls ≡ sites → ((i : ℕ) → i < sites → rowOf t i ≡ getD ls i []) → rows t ≡ ls
-rows-are t ls e h =
-    ext-getD [] (rows t) ls (length-rows t ∙ sym e)
-    (λ i p. let q : i < sites = omega (arith, length-rows t) in rows-row t i q ∙ h i q)
-
--- after a store, they are the rows before with the stored list at its place
-pub rows-stored : {t : Table} → Sized t → (i : ℕ) (l : List ℕ) → i < sites → length l ≤ limit → rows (storedAt t i l) ≡ set (rows t) i l
-rows-stored {t} s i l p q =
-    rows-are (storedAt t i l) (set (rows t) i l) (length-set (rows t) i l ∙ length-rows t)
-    (λ j r.
-    elim (ℕ-discrete j i) [
-      | yes e ↦ rw e (row-stored s i l p q ∙ sym (getD-set-same (rows t) i l [] (omega (arith, length-rows t))))
-      | no n ↦ row-stored-other t i l j n ∙ sym (getD-set-other (rows t) i j l [] n ∙ rows-row t j r)
-    ])
-
-pub rows-emptied : {t : Table} → Sized t → (i : ℕ) → i < sites → rows (emptiedAt t i) ≡ set (rows t) i []
-rows-emptied {t} s i p = rw (emptied-is t i) (rows-stored s i [] p (omega arith))
-
-pub rows-empty : rows emptyTable ≡ replicate sites []
-rows-empty =
-    rows-are emptyTable (replicate sites []) (length-replicate {A = List ℕ} sites [])
-    (λ i p. row-empty i ∙ sym (getD-replicate {A = List ℕ} sites i [] [] p))

@@ -8,7 +8,7 @@ use native.Mathlib.Decide.{ℕ-discrete}
 use native.Mathlib.Omega.{arith}
 use borrow.Author.Tests.{leb-true, lt-ltb, le-ltb, le-leb, eqb-true, eq-eqb}
 use lib.Dec.{leb, ltb, eqb}
-use lib.ListN.{length, getD, length-set, List·getD-eq-default}
+use lib.ListN.{length, getD, length-set}
 use lib.Seq.{length-sets, getD-set-other}
 use Rattle.basics.specs.Bools.{and-left, and-right}
 use Rattle.roster.specs.SitesLaws.{all-each, each-all, lt-or-le}
@@ -16,8 +16,8 @@ use Rattle.history.specs.History.{validHistory}
 use Rattle.history.specs.ValidLaws.{valid-nil}
 use Rattle.history.specs.Words.{limit}
 use Rattle.table.specs.declared.Table.{Table}
-use Rattle.table.specs.Table.{sites, rowOf, withRow, storedAt, emptiedAt, emptyTable, validRow, validTable}
-use Rattle.table.specs.TableLaws.{Sized, WellSized, row-none, row-cases, row-same, row-other, stored-keeps, count-same, count-empty, row-empty, emptied-is}
+use Rattle.table.specs.Table.{sites, rowOf, withRow, storedAt, emptyTable, validRow, validTable}
+use Rattle.table.specs.TableLaws.{row-none, row-cases, row-same, row-other, stored-keeps, count-same, count-empty, row-empty}
 
 -- ---- a row
 
@@ -75,17 +75,6 @@ valid-history n t e i p =
     let v = valid-each n t e i p in
     ⊎-elim (v .history) (λ q. rw (v .empty q) valid-nil) (lt-or-le i n)
 
--- no count is over 32
-pub valid-well-sized : (n : ℕ) {t : Table} → Sized t → validTable n t ≡ true → WellSized t
-valid-well-sized n {t} s e =
-    record {
-      sized = s;
-      count-le = λ i.
-          ⊎-elim (λ p. valid-each n t e i p .count-le)
-          (λ p. omega (arith, List·getD-eq-default (t .counts) 0 {n = i} (omega arith)))
-          (lt-or-le i sites);
-    }
-
 -- ---- stores
 
 -- a row that stays is as valid as it was
@@ -126,13 +115,10 @@ valid-with n t i l v z e =
       | no f ↦ valid-same n (withRow t i l) t j (getD-set-other (t .counts) i j (length l) 0 f) (row-other t i l j f) (valid-each n t e j r)
     ]))
 
--- a valid history stored at a site keeps the table valid; so does a row that is forgotten; and the empty table is valid
+-- a valid history stored at a site keeps the table valid, and the empty table is valid
 pub valid-stored : (n : ℕ) (t : Table) (i : ℕ) (l : List ℕ) → validTable n t ≡ true → i < n → validHistory l ≡ true
     → validTable n (storedAt t i l) ≡ true
 valid-stored n t i l e p v = valid-with n t i l v (λ q. absurd (omega arith)) e
-
-pub valid-emptied : (n : ℕ) (t : Table) (i : ℕ) → validTable n t ≡ true → validTable n (emptiedAt t i) ≡ true
-valid-emptied n t i e = rw (emptied-is t i) (valid-with n t i [] valid-nil (λ q. refl) e)
 
 pub valid-empty : (n : ℕ) → validTable n emptyTable ≡ true
 valid-empty n =

@@ -102,31 +102,4 @@ impl Table {
             words: [0u64; 512],
         }
     }
-
-    // The table with h as row `site`; unchanged where there is no such row, or h is too long for one.
-    pub fn stored(self, site: usize, h: &[u64]) -> Table
-        ensures { λ r. ⌜ r ≡ spec.storedAt self site (now (h .entry)) ⌝ }
-    {
-        let mut counts = self.counts;
-        let mut words = self.words;
-        store(&mut words, &mut counts, site, h);
-        Table { counts, words }
-    }
-
-    // The table with row `site` empty; unchanged where there is no such row.
-    pub fn emptied(self, site: usize) -> Table
-        ensures { λ r. ⌜ r ≡ spec.emptiedAt self site ⌝ }
-    {
-        let none: [u64; 0] = [];
-        self.stored(site, &none)
-    }
-
-    // Whether every row is one that lent state may hold, for n sites.
-    pub fn is_valid(self, n: u8) -> bool
-        ensures { λ r. ⌜ r ≡ spec.validTable n self ⌝ }
-    {
-        let words: &[u64] = &self.words;
-        let counts: &[u8] = &self.counts;
-        rows_valid(words, counts, n)
-    }
 }

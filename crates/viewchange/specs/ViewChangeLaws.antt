@@ -10,7 +10,7 @@ use borrow.Author.Tests.{leb-false, lt-leb, lt-ltb, eqb-true, ne-eqb, not-false}
 use lib.Count.{ones, onesIn}
 use lib.Dec.{leb, eqb, lit<}
 use lib.ListN.{length}
-use Rattle.basics.specs.Bools.{true-or-false, and-left, and-right, or-left, beq-true}
+use Rattle.basics.specs.Bools.{true-or-false, and-left, and-right, or-left, beq-true, everyBelow}
 use Rattle.roster.specs.declared.Roster.{Roster}
 use Rattle.roster.specs.declared.View.{View}
 use Rattle.roster.specs.Roster.{validRoster, quorum}
@@ -24,6 +24,7 @@ use Rattle.refusal.specs.JudgedLaws.{GivenFirst, NoneHolds, passed, pass, Judge
 use Rattle.frame.specs.declared.Frame.{Frame}
 use Rattle.frame.specs.Hex.{allFit}
 use Rattle.frame.specs.Kinds.{uses, isKind, unusedZero, zeroUnless}
+use Rattle.frame.specs.BareLaws.{bareKind, bareKinds}
 use Rattle.frame.specs.Format.{frameOf, readingOf, malformed, proper, allZero, fits, writable}
 use Rattle.frame.specs.FormatLaws.{frame-of-line, line-is-line, reading-line, found-taken, found-frame}
 use Rattle.site.specs.declared.ViewRecord.{ViewRecord}
@@ -125,6 +126,11 @@ taken-is k =
     (λ (p : 10 ≤ k).
     bit-out taken 10 k (lit< tt) p ∙ sym (rw (ne-eqb k suspicionKind (λ e. omega arith), ne-eqb k changeKind (λ e. omega arith))))
     (lt-or-le k 10)
+
+-- neither uses n or m
+pub bare-taken : bareKinds taken ≡ true
+unfolding bareKinds bareKind everyBelow bit uses
+bare-taken = refl
 
 -- so a frame that FORM lets pass is a VIEWCHANGE if it is no SUSPICION
 pub received-change : (line : List ℕ) → form line ≡ false → isSuspicion (received line) ≡ false → received line .kind ≡ changeKind

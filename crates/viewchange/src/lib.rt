@@ -203,7 +203,7 @@ fn decide(r: Roster, own: u8, room: usize, v: ViewRecord, line: &[u8]) -> Decisi
 
 // Sends the frame that a decision of `own` names, if it names one, and answers the length of its line.
 fn notify(own: u8, d: Decision, out: &mut [u8]) -> usize
-    ensures { λ k. ⌜ (k ≡ reply.lengthSent (decision.replied own d .sending) (now (out .entry))) × (now (out .exit) ≡ reply.buffer (decision.replied own d .sending) (now (out .entry))) ⌝ }
+    ensures { λ k. ⌜ reply.Handed (decision.replied own d .sending) k (now (out .entry)) (now (out .exit)) ⌝ }
 {
     let sends = d.sends;
     if !sends {

@@ -2,7 +2,6 @@
 -- Assumes nothing.
 use mathlib.Core.Path.{sym, ap, _∙_}
 use borrow.Author.Needs.{needs}
-use Prim.Native.Nat.{ℕ}
 use mathlib.Core.Bool.{Bool, cond}
 use Rattle.frame_bench.specs.Flat.{flatOf, flatWith}
 use Rattle.frame_bench.proofs.frame_bench_read.Statement.{statement}

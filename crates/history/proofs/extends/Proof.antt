@@ -1,9 +1,8 @@
 -- `history::extends` meets its contract: a list of over 64 commands extends nothing, a shorter one does not extend, one that starts with g does,
 -- and else what is left after the same first commands decides.
 -- Assumes nothing.
-use mathlib.Core.Path.{_≡_, sym, ap, _∙_}
-use mathlib.Core.Bool.{true, and-false}
-use native.Mathlib.Omega.{arith}
+use mathlib.Core.Path.{_≡_, _∙_}
+use mathlib.Core.Bool.{and-false}
 use Prim.Native.Nat.{_≤_}
 use borrow.Author.Needs.{needs}
 use borrow.Author.Tests.{not-true, not-false, leb-true}

@@ -1,8 +1,8 @@
 -- `history::extends_past` meets its contract: the same first commands make no difference, and what is left is tried in a copy, for which there is room.
 -- Assumes nothing.
-use mathlib.Core.Path.{_≡_, sym, ap₂, _∙_}
+use mathlib.Core.Path.{sym, ap₂, _∙_}
 use native.Mathlib.Omega.{arith}
-use Prim.Native.Nat.{ℕ, _-_, _≤_}
+use Prim.Native.Nat.{_-_}
 use borrow.Author.Needs.{needs}
 use lib.ListN.{length, replicate, length-drop}
 use lib.Seq.{length-take-le}

@@ -1,10 +1,9 @@
 -- `history::place` meets its contract: the loop keeps that the walk from position n with place n is the walk from k with the place found so far.
 -- Assumes nothing.
-use Prim.Native.Nat.{_≤_, _-_}
+use Prim.Native.Nat.{_≤_}
 use native.Mathlib.Omega.{arith}
 use mathlib.Core.Path.{_≡_, sym, refl, _∙_}
 use borrow.Author.Needs.{needs}
-use lib.ListN.{length, take, getD}
 use Rattle.history.specs.Insertion.{walk}
 use Rattle.history.specs.InsertionLaws.{walk-place}
 use Rattle.history.proofs.Scans.{walk-stop, walk-before, walk-past, walk-end}

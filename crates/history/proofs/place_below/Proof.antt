@@ -3,7 +3,6 @@
 use mathlib.Core.Path.{sym, _∙_}
 use native.Mathlib.Omega.{arith}
 use borrow.Author.Needs.{needs}
-use lib.ListN.{getD}
 use lib.Seq.{length-take-le}
 use Rattle.history.proofs.Turns.{place-bounded}
 use Rattle.history.proofs.place_below.Statement.{statement}

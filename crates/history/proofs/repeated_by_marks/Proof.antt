@@ -1,6 +1,6 @@
 -- `history::repeated_by_marks` meets its contract: the loop keeps that the part passed has no repeat and that the marks of its commands are set.
 -- Assumes nothing.
-use mathlib.Core.Path.{_≡_, sym, refl, _∙_, ap}
+use mathlib.Core.Path.{_≡_, sym, refl, _∙_}
 use native.Mathlib.Omega.{arith}
 use borrow.Author.Needs.{needs}
 use Rattle.history.proofs.Scans.{tail-part}

@@ -1,7 +1,6 @@
 -- `learn::put` is safe and ends: the loop keeps that the index is within the text, and the length of the output.
-use mathlib.Core.Path.{_≡_, ap, sym, _∙_}
+use mathlib.Core.Path.{_≡_}
 use Prim.Native.Nat.{_≤_, _-_}
-use native.Mathlib.Omega.{arith}
 use borrow.Author.Needs.{needs}
 use lib.ListN.{length}
 use Rattle.learn.proofs.put.Statement.{statement}

@@ -1,6 +1,5 @@
 -- `learn::run` is safe and ends: the measure is the number of turns that are left; the loop keeps the lengths of the buffers.
-use mathlib.Core.Path.{_≡_, _∙_}
-use native.Mathlib.Omega.{arith}
+use mathlib.Core.Path.{_≡_}
 use borrow.Author.Needs.{needs}
 use lib.ListN.{length}
 use Rattle.learn.proofs.run.Statement.{statement}

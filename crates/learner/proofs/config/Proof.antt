@@ -3,9 +3,6 @@
 use mathlib.Core.Path.{sym, ap, _∙_}
 use mathlib.Core.Bool.{not}
 use borrow.Author.Tests.{not-true, not-false}
-use Rattle.history.specs.History.{validHistory}
-use lib.Dec.{leb}
-use Rattle.history.specs.Words.{limit, validStored}
 use Rattle.table.specs.Table.{validTable}
 use Rattle.learner.specs.Learner.{config}
 use borrow.Author.Needs.{needs}
@@ -29,41 +26,17 @@ returns-2 c =
     let if1 = c .before .before .if1 in
     rw (sym (valid-call .ensures) ∙ not-false _ (if1 .left), sym (c .before .rows-valid .ensures) ∙ not-true _ (c .if2 .taken))
 
+lendable-requires : tie.Need-lendable-requires
+lendable-requires c κs = search needs
+
 returns-3 : tie.Need-returns-3
-unfolding config validTable validStored
+unfolding config validTable
 returns-3 c =
     let valid-call = c .before .before .before .before .valid in
     let if1 = c .before .before .before .if1 in
     let rows-valid-call = c .before .before .rows-valid in
-    let given = c .before .before .before .before .before .before .before .before .args in
-    rw (sym (valid-call .ensures) ∙ not-false _ (if1 .left), sym (rows-valid-call .ensures) ∙ not-false _ (c .before .if2 .left), not-true (leb (given .count) limit) (c .if3 .taken))
-
-first-requires : tie.Need-first-requires
-first-requires c κs = search needs
-
-valid-requires-2 : tie.Need-valid-requires-2
-valid-requires-2 c κs = search needs
-
-returns-4 : tie.Need-returns-4
-unfolding config validTable validStored
-returns-4 c =
-    let valid-call = c .before .before .before .before .before .before .valid in
-    let if1 = c .before .before .before .before .before .if1 in
-    let rows-valid-call = c .before .before .before .before .rows-valid in
-    let if2 = c .before .before .before .if2 in
-    let given = c .before .before .before .before .before .before .before .before .before .before .args in
-    let if3 = c .before .before .if3 in
-    rw (sym (valid-call .ensures) ∙ not-false _ (if1 .left), sym (rows-valid-call .ensures) ∙ not-false _ (if2 .left), not-false (leb (given .count) limit) (if3 .left)) (ap not (c .valid2 .ensures ∙ ap validHistory (c .before .first .ensures)))
+    let if2 = c .before .if2 in
+    rw (sym (valid-call .ensures) ∙ not-false _ (if1 .left), sym (rows-valid-call .ensures) ∙ not-false _ (if2 .left)) (ap not (c .lendable .ensures))
 
 pub config-spec : {M : Type 1} → statement M
-config-spec =
-    tie.close
-    (tie.spec
-    valid-requires
-    returns
-    rows-valid-requires
-    returns-2
-    returns-3
-    first-requires
-    valid-requires-2
-    returns-4)
+config-spec = tie.close (tie.spec valid-requires returns rows-valid-requires returns-2 lendable-requires returns-3)

@@ -1,6 +1,6 @@
 -- `learner::stands` meets its contract: the voter stands behind its vote, and another site if its row extends it.
 -- Assumes nothing.
-use mathlib.Core.Path.{sym, _∙_}
+use mathlib.Core.Path.{sym}
 use denote.Ref.{now}
 use Rattle.learner.proofs.Tests.{backs-is}
 use borrow.Author.Needs.{needs}

@@ -2,13 +2,12 @@
 -- Assumes nothing.
 use mathlib.Core.Path.{ap, _∙_}
 use borrow.Author.Needs.{needs}
-use Rattle.table.specs.Table.{tableOf}
 use Rattle.table.specs.TableLaws.{Sized}
 use Rattle.learner.specs.Learner.{arrived}
 use Rattle.learner.specs.Verdict.{stateOf, settled}
 use Rattle.learner.specs.VerdictLaws.{settled-step}
 use Rattle.learner.proofs.Tests.{settled-parts}
-use Rattle.frame.specs.Format.{frameWith, readingWith}
+use Rattle.frame.specs.Format.{readingWith}
 use Rattle.learner.proofs.step_in_place.Statement.{statement}
 use Rattle.learner.proofs.step_in_place.Tie as tie
 

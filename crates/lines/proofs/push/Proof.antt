@@ -1,8 +1,6 @@
 -- `lines::push` meets its contract: it stores the byte where there is room, and else does nothing.
-use native.Mathlib.Omega.{arith}
 use borrow.Author.Needs.{needs}
 use borrow.Author.Tests.{lt-ltb, le-ltb}
-use mathlib.Core.Path.{refl}
 use lib.ListN.{length}
 use Rattle.lines.specs.Lines.{pushed, pushedLength}
 use Rattle.lines.proofs.push.Statement.{statement}

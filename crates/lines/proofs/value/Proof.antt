@@ -1,9 +1,5 @@
 -- `lines::value` meets its contract: a digit's character is 48 or more, and 87 or more past 57, so the difference is the digit.
-use mathlib.Core.Path.{_≡_, refl, sym, _∙_}
 use native.Mathlib.Omega.{arith}
-use borrow.Author.Needs.{needs}
-use borrow.Author.Tests.{le-leb, lt-leb}
-use Rattle.frame.specs.Hex.{valueOf}
 use Rattle.frame.specs.HexLaws.{value-lt}
 use Rattle.lines.proofs.Digits.{digit-from, letter-from, digit-value, letter-value}
 use Rattle.lines.proofs.value.Statement.{statement}

@@ -1,6 +1,6 @@
 -- `merge::settle` meets its contract: bringing h's commands to the front says whether the work extends h, and what it leaves is equivalent to the work, so its canonical order is the work's.
 -- Assumes nothing.
-use mathlib.Core.Path.{_≡_, sym, ap, _∙_}
+use mathlib.Core.Path.{sym, ap, _∙_}
 use borrow.Author.Needs.{needs}
 use borrow.Author.Tests.{not-true, not-false}
 use Rattle.history.specs.History.{canonical}

@@ -6,12 +6,11 @@ use mathlib.Core.List.{List, _++_, append-assoc}
 use Prim.Native.Nat.{ℕ, _+_, _-_, _*_, _≤_}
 use native.Mathlib.Omega.{arith}
 use borrow.Author.Needs.{needs}
-use lib.ListN.{length, take, drop, set}
+use lib.ListN.{length, take, drop}
 use lib.Seq.{sets, sets-eq, drop-drop}
 use Rattle.history.specs.Words.{limit, padded}
 use Rattle.history.specs.WordsLaws.{length-padded}
-use Rattle.table.specs.declared.Table.{Table}
-use Rattle.table.specs.Table.{tableOf, storedAt, storedIn}
+use Rattle.table.specs.Table.{tableOf}
 use Rattle.table.specs.TableLaws.{part-length, stored-is, stored-past, stored-long, stored-in, stored-few, stored-short}
 use Rattle.table.proofs.store.Statement.{statement}
 use Rattle.table.proofs.store.Tie as tie
