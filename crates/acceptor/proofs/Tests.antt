@@ -17,20 +17,19 @@ use Rattle.roster.specs.declared.View.{View}
 use Rattle.table.specs.Table.{row, tableOf}
 use Rattle.table.specs.TableLaws.{length-row}
 use Rattle.refusal.specs.declared.Refusal.{Refusal}
-use Rattle.refusal.specs.declared.Refusal.the-variants.{Form, Contradiction}
+use Rattle.refusal.specs.declared.Refusal.the-variants.{Contradiction}
 use Rattle.refusal.specs.declared.Answer.the-variants.{Accepted}
 use Rattle.refusal.specs.Rules.{judged}
-use Rattle.frame.specs.declared.Frame.{Frame}
-use Rattle.frame.specs.declared.Reading.{Reading}
-use Rattle.frame.specs.Format.{readingOf, malformed}
+use Rattle.frame.specs.declared.Heading.{Heading}
 use Rattle.site.specs.declared.ViewRecord.{ViewRecord}
-use Rattle.site.specs.Reply.{Reply, sends, lengthSent, buffer}
+use Rattle.site.specs.Reply.{Reply, buffer}
 use Rattle.acceptor.specs.declared.State.{State}
 use Rattle.acceptor.specs.declared.Settled.{Settled}
 use Rattle.acceptor.specs.declared.Marks.{Marks}
 use Rattle.acceptor.specs.declared.Verdict.{Verdict}
-use Rattle.acceptor.specs.Acceptor.{taken, received, heldOf, provenOf, config, outcome}
-use Rattle.acceptor.specs.Verdict.{marksOf, historyOf, stateOf, outcomeOf, Ruling, ruled, given, idle, against, putting, proving, arranged, United, onUnion, agreeing, convinces, onStore, onEntry, headingOf, onFrame, onReading, onTested, onLine, Handed, sendingOf, replaced, entered, settled}
+use Rattle.acceptor.specs.Acceptor.{heldOf, provenOf, config, outcome}
+use Rattle.acceptor.specs.Parts.{marksOf, historyOf, outcomeOf}
+use Rattle.acceptor.specs.Verdict.{ruled, given, idle, against, putting, proving, arranged, United, onUnion, agreeing, convinces, onStore, onEntry, onReading, onLine, Handed, sendingOf, replaced, entered, settled}
 use Rattle.acceptor.specs.VerdictLaws.{ruled-kept, kept-union}
 
 -- the code's test of extension, of a list of at most 32 commands
@@ -106,37 +105,10 @@ pub grown : {d : Verdict} (own : ℕ) (k : Marks) (x w l more : List ℕ) → x 
     → ruled d (l ++ more) ≡ onUnion own k w
 grown own k x w l more e a = ruled-kept (l ++ more) (onUnion own k x) (rw (a .1) (kept-union own k x more)) (a .0) ∙ ap (onUnion own k) e
 
--- ---- a line: o is what reading it found
-
-module _ (r : Roster) (own : ℕ) (view : View) (k : Marks) (held proven words counts line : List ℕ) where
-  read-none : readingOf line taken .found ≡ false → against k Form ≡ onReading r own view k held proven words counts line
-  unfolding onReading malformed judged
-  read-none p = rw p
-
-  read-frame : readingOf line taken .found ≡ true
-      → onFrame r own view k held proven words counts (headingOf (received line)) (received line .words) ≡ onReading r own view k held proven words counts line
-  unfolding onReading malformed judged
-  read-frame p = rw p
-
-  module _ (o : Reading) (e : o ≡ readingOf line taken) where
-    pub line-form : o .found ≡ false → against k Form ≡ onReading r own view k held proven words counts line
-    line-form p = read-none (rw e at p)
-
-    pub line-frame : o .found ≡ true
-        → onFrame r own view k held proven words counts (headingOf (o .frame)) (o .frame .words) ≡ onReading r own view k held proven words counts line
-    line-frame p = rw e (read-frame (rw e at p))
-
--- a line in a state: b is the test of CONFIG, h and g are what is held and what is proven
-pub line-tested : (r : Roster) (own room : ℕ) (v : ViewRecord) (s : State) (line h g : List ℕ) (b : Bool) → b ≡ config r own room v s → h ≡ heldOf s → g ≡ provenOf s
-    → onTested b r own (v .view) (marksOf s) h g (s .verified .words) (s .verified .counts) line ≡ onLine r own room v s line
-line-tested r own room v s line h g b e p q = rw (e, p, q)
-
--- ---- what is handed over: m is the frame made, n the frame to send
-
-pub handing : (m n : Frame) (k : ℕ) (out after : List ℕ) → m ≡ n → (k ≡ lengthSent (sends m) out) × (after ≡ buffer (sends m) out)
-    → Handed (sends n) k out after
-handing m n k out after e p =
-    record { size = p .0 ∙ ap (λ (x : Frame). lengthSent (sends x) out) e; left = p .1 ∙ ap (λ (x : Frame). buffer (sends x) out) e }
+-- what was read of a line in a state: b is the test of CONFIG, h and g are what is held and what is proven
+pub line-tested : (r : Roster) (own room : ℕ) (v : ViewRecord) (s : State) (head : Heading) (w h g : List ℕ) (b : Bool) → b ≡ config r own room v s → h ≡ heldOf s → g ≡ provenOf s
+    → onReading b r own (v .view) (marksOf s) h g (s .verified .words) (s .verified .counts) head w ≡ onLine r own room v s head w
+line-tested r own room v s head w h g b f p q = rw (f, p, q)
 
 -- ---- a step in place: x is what the line gives, d the verdict on it, w the buffer with its history
 
@@ -151,4 +123,4 @@ module _ (own : ℕ) (view : View) (s : State) (out : List ℕ) (x : Reply State
       → o ≡ given d n
       → (outcomeOf o i held j proven counts words ≡ outcome x out) × (l ≡ buffer (x .sending) out)
   carried-out h g k i held j proven counts words n l o f a b p y z u q =
-      (rw (← e, q, y, z, u, p .size, a, b, f), p .left ∙ rw (← e, a, b, f))
+      (rw (← e, q, y, z, u, p .0, a, b, f), p .1 ∙ rw (← e, a, b, f))

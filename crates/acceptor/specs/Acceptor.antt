@@ -16,7 +16,6 @@ use Rattle.merge.specs.Merge.{appended}
 use Rattle.merge.specs.Appending.{reuses, nothingNew}
 use Rattle.table.specs.declared.Table.{Table}
 use Rattle.table.specs.Table.{rowOf, storedAt, emptyTable, validTable}
-use Rattle.refusal.specs.declared.Refusal.{Refusal}
 use Rattle.refusal.specs.declared.Refusal.the-variants.{Config, Form, Sender, Stale, Command, History, Behind, Reused, Contradiction, Nothing, Full}
 use Rattle.refusal.specs.Rules.{Rule, _gives_, judged}
 use Rattle.frame.specs.declared.Frame.{Frame}

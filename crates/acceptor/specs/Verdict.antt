@@ -1,5 +1,8 @@
 -- The verdict on a line: what is decided of it before the state is changed, from the parts of the state that the code lends. The entries that equal
 -- a history are those that were there, the sender's being one of them once its VERIFY is stored.
+-- A Verdict is what is decided, in numbers only: the code hands it on by value, and leaves the history that it speaks of in a lent buffer. A Ruling is
+-- the verdict with that history, which is what the definitions and the laws speak of. Settled is what the call returns: the answer, the length of
+-- what is to be sent, and the marks; the rest of the state is left in the lent parts.
 use mathlib.Core.Path.{_≡_}
 use mathlib.Core.Bool.{Bool, true, false, not, cond, _&&_, _||_}
 use mathlib.Core.List.{List, [], _∷_}
@@ -19,57 +22,28 @@ use Rattle.history.specs.Words.{limit, stored}
 use Rattle.merge.specs.Merge.{appended}
 use Rattle.merge.specs.Appending.{reuses, nothingNew}
 use Rattle.table.specs.declared.Table.{Table}
-use Rattle.table.specs.Table.{row, tableOf, storedAt, emptyTable}
+use Rattle.table.specs.Table.{row, storedAt, emptyTable}
 use Rattle.refusal.specs.declared.Refusal.{Refusal}
 use Rattle.refusal.specs.declared.Refusal.the-variants.{Config, Form, Sender, Stale, Command, History as Improper, Behind, Reused, Contradiction, Nothing, Full}
 use Rattle.refusal.specs.declared.Answer.{Answer}
 use Rattle.refusal.specs.declared.Answer.the-variants.{Accepted, Refused}
 use Rattle.refusal.specs.Rules.{Rule, _gives_, judged}
 use Rattle.frame.specs.declared.Frame.{Frame}
+use Rattle.frame.specs.declared.Heading.{Heading}
 use Rattle.site.specs.declared.ViewRecord.{ViewRecord}
 use Rattle.site.specs.Site.{isSet}
 use Rattle.site.specs.Message.{message}
 use Rattle.site.specs.Reply.{Sending, Reply, sendsIf, lengthSent, buffer}
 use Rattle.acceptor.specs.declared.State.{State}
-use Rattle.acceptor.specs.declared.Outcome.{Outcome}
 use Rattle.acceptor.specs.declared.Settled.{Settled}
 use Rattle.acceptor.specs.declared.Marks.{Marks}
-use Rattle.acceptor.specs.declared.Heading.{Heading}
 use Rattle.acceptor.specs.declared.Verdict.{Verdict}
-use Rattle.acceptor.specs.Acceptor.{heldOf, provenOf, received, config, form}
-
--- ---- the parts of a state
-
--- what a state keeps beside its histories and its table
-abbrev pub marksOf : State → Marks
-marksOf s = record { ballot = s .ballot; fast = s .fast; signed = s .signed; certified = s .certified; certificate = s .certificate }
-
--- a history of its count and its words
-abbrev pub historyOf : ℕ → List ℕ → History
-historyOf n w = record { count = n; words = w }
-
--- the state of its parts: the marks, the count and the words of what is held and of what is proven, the counts and the words of the table
-abbrev pub stateOf : Marks → ℕ → List ℕ → ℕ → List ℕ → List ℕ → List ℕ → State
-stateOf k n held m proven counts words =
-    record {
-      ballot = k .ballot;
-      fast = k .fast;
-      signed = k .signed;
-      held = historyOf n held;
-      proven = historyOf m proven;
-      certified = k .certified;
-      certificate = k .certificate;
-      verified = tableOf words counts;
-    }
-
--- the outcome of a call in place, of what it gives and of the parts that it leaves
-abbrev pub outcomeOf : Settled → ℕ → List ℕ → ℕ → List ℕ → List ℕ → List ℕ → Outcome
-outcomeOf o n held m proven counts words =
-    record { answer = o .answer; sent = o .sent; state = stateOf (o .marks) n held m proven counts words }
+use Rattle.acceptor.specs.Acceptor.{heldOf, provenOf, config}
+use Rattle.acceptor.specs.Parts.{marksOf}
 
 -- ---- the verdicts
 
--- what a verdict gives where so many bytes are to be sent
+-- what a call returns after a verdict, where so many bytes are to be sent
 abbrev pub given : Verdict → ℕ → Settled
 given d sent = record { answer = d .answer; sent = sent; marks = d .marks }
 
@@ -158,11 +132,11 @@ outsider r site view = leb (r .n) site || not (eqb site (leaderOf r view))
 
 -- P1A, FAST
 abbrev pub openingRules : Roster → View → Marks → Heading → List Rule
-openingRules r view k e =
-    outsider r (e .sender) (e .view) gives Sender ∷ not (eqb (e .view .0) (view .0) && ltb (k .ballot .0) (e .ballot .0)) gives Stale ∷ []
+openingRules r view k head =
+    outsider r (head .sender) (head .view) gives Sender ∷ not (eqb (head .view .0) (view .0) && ltb (k .ballot .0) (head .ballot .0)) gives Stale ∷ []
 
 unfoldable pub onOpening : Roster → View → Marks → Heading → ℕ → ℕ → Ruling
-onOpening r view k e fast kind = judged (against k) (opening k (e .ballot) fast kind) (openingRules r view k e)
+onOpening r view k head fast kind = judged (against k) (opening k (head .ballot) fast kind) (openingRules r view k head)
 
 -- PROPOSE: the length, then the histories, then all
 abbrev pub unionRules : List ℕ → List Rule
@@ -190,14 +164,14 @@ abbrev pub onCommands : ℕ → Marks → List ℕ → List ℕ → List ℕ →
 onCommands own k held proven h = judged (against k) (onGrowth own k held h) (commandRules held proven h)
 
 abbrev pub proposalRules : Marks → Heading → List ℕ → List Rule
-proposalRules k e h =
-    eqb (e .sender) 0 gives Sender ∷
-    not (eqb (e .ballot .0) (k .ballot .0) && isSet (k .fast)) gives Stale ∷
-    (wrong h || not (allBy (e .sender) h)) gives Command ∷
+proposalRules k head h =
+    eqb (head .sender) 0 gives Sender ∷
+    not (eqb (head .ballot .0) (k .ballot .0) && isSet (k .fast)) gives Stale ∷
+    (wrong h || not (allBy (head .sender) h)) gives Command ∷
     (repeated h || eqb (length h) 0) gives Improper ∷ []
 
 unfoldable pub onProposal : ℕ → Marks → List ℕ → List ℕ → Heading → List ℕ → Ruling
-onProposal own k held proven e h = judged (against k) (onCommands own k held proven h) (proposalRules k e h)
+onProposal own k held proven head h = judged (against k) (onCommands own k held proven h) (proposalRules k head h)
 
 -- BEHIND, of a P2A
 unfoldable pub lags : ℕ → List ℕ → List ℕ → List ℕ → Bool
@@ -211,12 +185,12 @@ abbrev pub onOrdered : ℕ → Marks → List ℕ → List ℕ → List ℕ → 
 onOrdered own k held proven h = judged (against k) (signing own k h) (orderedRules k held proven h)
 
 abbrev pub orderRules : Roster → View → Marks → Heading → List Rule
-orderRules r view k e =
-    outsider r (e .sender) (e .view) gives Sender ∷
-    not (eqb (e .view .0) (view .0) && (eqb (e .ballot .0) (k .ballot .0) && eqb (k .fast) 0)) gives Stale ∷ []
+orderRules r view k head =
+    outsider r (head .sender) (head .view) gives Sender ∷
+    not (eqb (head .view .0) (view .0) && (eqb (head .ballot .0) (k .ballot .0) && eqb (k .fast) 0)) gives Stale ∷ []
 
 unfoldable pub onOrder : Roster → ℕ → View → Marks → List ℕ → List ℕ → Heading → List ℕ → Ruling
-onOrder r own view k held proven e h = judged (against k) (onOrdered own k held proven h) (orderRules r view k e)
+onOrder r own view k held proven head h = judged (against k) (onOrdered own k held proven h) (orderRules r view k head)
 
 -- whether site i's entry is h once `site` has verified it, and the mask of those below N whose entry is
 abbrev pub agrees : List ℕ → List ℕ → ℕ → List ℕ → ℕ → Bool
@@ -248,24 +222,20 @@ onEntry r k proven words counts site h =
     judged (against k) (fitting r k proven words counts site h (extends h (row words counts site))) (entryRules (row words counts site) h)
 
 abbrev pub verifyRules : Roster → View → Marks → Heading → List ℕ → List Rule
-verifyRules r view k e h =
-    leb (r .n) (e .sender) gives Sender ∷
-    not (eqb (e .view .0) (view .0) && eqb (e .ballot .0) (k .ballot .0)) gives Stale ∷
+verifyRules r view k head h =
+    leb (r .n) (head .sender) gives Sender ∷
+    not (eqb (head .view .0) (view .0) && eqb (head .ballot .0) (k .ballot .0)) gives Stale ∷
     wrong h gives Command ∷
     improper h gives Improper ∷ []
 
 unfoldable pub onVerify : Roster → View → Marks → List ℕ → List ℕ → List ℕ → Heading → List ℕ → Ruling
-onVerify r view k proven words counts e h = judged (against k) (onEntry r k proven words counts (e .sender) h) (verifyRules r view k e h)
+onVerify r view k proven words counts head h = judged (against k) (onEntry r k proven words counts (head .sender) h) (verifyRules r view k head h)
 
 -- ---- the verdict on a frame, and on a line
 
--- the small fields of a frame
-abbrev pub headingOf : Frame → Heading
-headingOf m = record { kind = m .kind; sender = m .sender; view = m .view; ballot = m .ballot; n = m .n }
-
--- the history of a frame with these words
+-- the history of a frame with this heading and these words
 abbrev pub carriedIn : Heading → List ℕ → List ℕ
-carriedIn e w = take (e .n) w
+carriedIn head w = take (head .n) w
 
 -- no more than 16 sites and 32 commands held; with them, no more than 32 of a frame, and room for a union
 pub record Short (r : Roster) (held : List ℕ) : Type 0 where
@@ -278,27 +248,24 @@ pub record Sizes (r : Roster) (held : List ℕ) (n : ℕ) (w : List ℕ) : Type 
   pub room : length w ≡ 64
 
 unfoldable pub onCarried : Roster → ℕ → View → Marks → List ℕ → List ℕ → List ℕ → List ℕ → Heading → List ℕ → Ruling
-onCarried r own view k held proven words counts e w =
-    cond (eqb (e .kind) 4) (onProposal own k held proven e (carriedIn e w))
-    (cond (eqb (e .kind) 5) (onOrder r own view k held proven e (carriedIn e w))
-    (onVerify r view k proven words counts e (carriedIn e w)))
+onCarried r own view k held proven words counts head w =
+    cond (eqb (head .kind) 4) (onProposal own k held proven head (carriedIn head w))
+    (cond (eqb (head .kind) 5) (onOrder r own view k held proven head (carriedIn head w))
+    (onVerify r view k proven words counts head (carriedIn head w)))
 
 unfoldable pub onFrame : Roster → ℕ → View → Marks → List ℕ → List ℕ → List ℕ → List ℕ → Heading → List ℕ → Ruling
-onFrame r own view k held proven words counts e w =
-    cond (eqb (e .kind) 1) (onOpening r view k e 0 3)
-    (cond (eqb (e .kind) 2) (onOpening r view k e 1 0) (onCarried r own view k held proven words counts e w))
+onFrame r own view k held proven words counts head w =
+    cond (eqb (head .kind) 1) (onOpening r view k head 0 3)
+    (cond (eqb (head .kind) 2) (onOpening r view k head 1 0) (onCarried r own view k held proven words counts head w))
 
--- a line in a state of these parts: that CONFIG lets pass, where its test is known, and in any state
-unfoldable pub onReading : Roster → ℕ → View → Marks → List ℕ → List ℕ → List ℕ → List ℕ → List ℕ → Ruling
-onReading r own view k held proven words counts line =
-    judged (against k) (onFrame r own view k held proven words counts (headingOf (received line)) (received line .words)) (form line gives Form ∷ [])
+-- what was read of a line, where the test of CONFIG is known, and in any state
+abbrev pub onReading : Bool → Roster → ℕ → View → Marks → List ℕ → List ℕ → List ℕ → List ℕ → Heading → List ℕ → Ruling
+onReading unfit r own view k held proven words counts head w =
+    judged (against k) (onFrame r own view k held proven words counts head w) (unfit gives Config ∷ not (head .found) gives Form ∷ [])
 
-abbrev pub onTested : Bool → Roster → ℕ → View → Marks → List ℕ → List ℕ → List ℕ → List ℕ → List ℕ → Ruling
-onTested unfit r own view k held proven words counts line = judged (against k) (onReading r own view k held proven words counts line) (unfit gives Config ∷ [])
-
-abbrev pub onLine : Roster → ℕ → ℕ → ViewRecord → State → List ℕ → Ruling
-onLine r own room v s line =
-    onTested (config r own room v s) r own (v .view) (marksOf s) (heldOf s) (provenOf s) (s .verified .words) (s .verified .counts) line
+abbrev pub onLine : Roster → ℕ → ℕ → ViewRecord → State → Heading → List ℕ → Ruling
+onLine r own room v s head w =
+    onReading (config r own room v s) r own (v .view) (marksOf s) (heldOf s) (provenOf s) (s .verified .words) (s .verified .counts) head w
 
 -- ---- what a verdict does
 
@@ -317,10 +284,9 @@ frameOf own view d h held proven =
 abbrev pub sendingOf : ℕ → View → Verdict → List ℕ → List ℕ → List ℕ → Sending
 sendingOf own view d h held proven = sendsIf (not (eqb (d .kind) 0)) (frameOf own view d h held proven)
 
--- k bytes of a buffer are to be sent, and the buffer after that
-pub record Handed (x : Sending) (k : ℕ) (out after : List ℕ) : Type 0 where
-  pub size : k ≡ lengthSent x out
-  pub left : after ≡ buffer x out
+-- k bytes of a buffer are to be sent, and it is left so
+abbrev pub Handed : Sending → ℕ → List ℕ → List ℕ → Type 0
+Handed x k out left = (k ≡ lengthSent x out) × (left ≡ buffer x out)
 
 -- a history after it: this one if it is due, or as it was
 abbrev pub replaced : Bool → List ℕ → History → History

@@ -1,6 +1,6 @@
 -- What a verdict does is what the definitions say of the line.
-use mathlib.Core.Path.{_≡_, refl, ap, _∙_}
-use mathlib.Core.Bool.{Bool, true, false, cond, Bool·not-not}
+use mathlib.Core.Path.{_≡_, refl, sym, ap, _∙_, subst}
+use mathlib.Core.Bool.{Bool, true, false, not, cond, Bool·not-not}
 use mathlib.Core.List.{List, [], _∷_, _++_}
 use Prim.Native.Nat.{ℕ, zero, suc, _≤_, _<_}
 use native.Mathlib.Decide.{ℕ-discrete}
@@ -11,7 +11,6 @@ use lib.ListN.{length, take}
 use lib.Seq.{take-all, take-append-seam}
 use Rattle.roster.specs.declared.Roster.{Roster}
 use Rattle.roster.specs.declared.View.{View}
-use Rattle.roster.specs.Mask.{beyond}
 use Rattle.roster.specs.SitesLaws.{mask-cong, and-left, and-right}
 use Rattle.roster.specs.RosterLaws.{valid-figures}
 use Rattle.history.specs.History.{canonical, extends}
@@ -25,18 +24,20 @@ use Rattle.table.specs.TableLaws.{Sized, row-stored, row-stored-other}
 use Rattle.refusal.specs.declared.Refusal.the-variants.{Config, Form, Full}
 use Rattle.refusal.specs.Rules.{Rule, _gives_, judged}
 use Rattle.refusal.specs.RulesLaws.{judged-map, judged-later, judged-passed, judged-none}
-use Rattle.frame.specs.declared.Frame.{Frame}
+use Rattle.frame.specs.declared.Heading.{Heading}
+use Rattle.frame.specs.declared.Reading.{Reading}
+use Rattle.frame.specs.Format.{frameWith, readingWith, readingOf, malformed}
 use Rattle.site.specs.declared.ViewRecord.{ViewRecord}
 use Rattle.site.specs.Site.{seated, validRecord}
 use Rattle.site.specs.SiteLaws.{seated-is}
 use Rattle.site.specs.Reply.{Reply, refuse, accept, silent, sends}
 use Rattle.acceptor.specs.declared.State.{State}
 use Rattle.acceptor.specs.declared.Marks.{Marks}
-use Rattle.acceptor.specs.declared.Heading.{Heading}
 use Rattle.acceptor.specs.declared.Verdict.{Verdict}
 use Rattle.acceptor.specs.Acceptor as acceptor
-use Rattle.acceptor.specs.Acceptor.{P1A, FAST, PROPOSE, P2A, VERIFY, kindOf, received, form, carried, heldOf, provenOf, notLeader, sameView, sameBallot, behindOf, entryOf, sign, matches, certificateOf, proves, p2b, storing, store, heard, accepted, frameRules, step, config}
-use Rattle.acceptor.specs.Verdict.{marksOf, Ruling, ruled, idle, against, putting, signing, proving, opening, outsider, openingRules, onOpening, unionRules, arranged, commandRules, proposalRules, orderRules, orderedRules, onOrdered, headingOf, onCarried, entryRules, verifyRules, fitting, onUnion, onGrowth, onCommands, onProposal, lags, onOrder, agrees, agreeing, convinces, onStore, onEntry, onVerify, onFrame, onReading, onLine, settled, Short}
+use Rattle.acceptor.specs.Acceptor.{P1A, FAST, PROPOSE, P2A, VERIFY, kindOf, taken, carried, heldOf, provenOf, notLeader, sameView, sameBallot, behindOf, entryOf, sign, matches, certificateOf, proves, p2b, storing, store, heard, accepted, frameRules, step, config}
+use Rattle.acceptor.specs.Parts.{marksOf}
+use Rattle.acceptor.specs.Verdict.{Ruling, ruled, against, putting, signing, proving, opening, outsider, openingRules, onOpening, unionRules, arranged, commandRules, proposalRules, orderRules, orderedRules, onOrdered, carriedIn, onCarried, entryRules, verifyRules, fitting, onUnion, onGrowth, onCommands, onProposal, lags, onOrder, agrees, agreeing, convinces, onStore, onEntry, onVerify, onFrame, onLine, settled, Short}
 use Rattle.acceptor.specs.AcceptorLaws.{carried-short}
 
 -- ---- sizes
@@ -89,16 +90,16 @@ kept-union own k w more = go (ltb limit (length w))
     go true = refl
     go false = take-append-seam (canonical w) more
 
-pub kept-opening : (r : Roster) (view : View) (k : Marks) (e : Heading) (fast kind : ℕ) (w : List ℕ) → Kept w (onOpening r view k e fast kind)
+pub kept-opening : (r : Roster) (view : View) (k : Marks) (head : Heading) (fast kind : ℕ) (w : List ℕ) → Kept w (onOpening r view k head fast kind)
 unfolding onOpening
-kept-opening r view k e fast kind w = kept-judged w k (opening k (e .ballot) fast kind) (openingRules r view k e) refl
+kept-opening r view k head fast kind w = kept-judged w k (opening k (head .ballot) fast kind) (openingRules r view k head) refl
 
-pub kept-order : (r : Roster) (own : ℕ) (view : View) (k : Marks) (held proven : List ℕ) (e : Heading) (n : ℕ) (w : List ℕ)
-    → Kept w (onOrder r own view k held proven e (take n w))
+pub kept-order : (r : Roster) (own : ℕ) (view : View) (k : Marks) (held proven : List ℕ) (head : Heading) (n : ℕ) (w : List ℕ)
+    → Kept w (onOrder r own view k held proven head (take n w))
 unfolding onOrder
-kept-order r own view k held proven e n w =
+kept-order r own view k held proven head n w =
     let h = take n w in
-    kept-judged w k (onOrdered own k held proven h) (orderRules r view k e)
+    kept-judged w k (onOrdered own k held proven h) (orderRules r view k head)
     (kept-judged w k (signing own k h) (orderedRules k held proven h) (take-first n w))
 
 module _ (r : Roster) (k : Marks) (proven words counts : List ℕ) (site n : ℕ) (w : List ℕ) where
@@ -112,15 +113,15 @@ module _ (r : Roster) (k : Marks) (proven words counts : List ℕ) (site n : ℕ
       kept-put (agreeing r words counts site (take n w)) (convinces r k proven (agreeing r words counts site (take n w)) (take n w))
   kept-fitting false = refl
 
-pub kept-verify : (r : Roster) (view : View) (k : Marks) (proven words counts : List ℕ) (e : Heading) (n : ℕ) (w : List ℕ)
-    → Kept w (onVerify r view k proven words counts e (take n w))
+pub kept-verify : (r : Roster) (view : View) (k : Marks) (proven words counts : List ℕ) (head : Heading) (n : ℕ) (w : List ℕ)
+    → Kept w (onVerify r view k proven words counts head (take n w))
 unfolding onVerify
-kept-verify r view k proven words counts e n w =
+kept-verify r view k proven words counts head n w =
     let h = take n w in
-    let entry = row words counts (e .sender) in
-    kept-judged w k (onEntry r k proven words counts (e .sender) h) (verifyRules r view k e h)
-    (kept-judged w k (fitting r k proven words counts (e .sender) h (extends h entry)) (entryRules entry h)
-    (kept-fitting r k proven words counts (e .sender) n w (extends h entry)))
+    let entry = row words counts (head .sender) in
+    kept-judged w k (onEntry r k proven words counts (head .sender) h) (verifyRules r view k head h)
+    (kept-judged w k (fitting r k proven words counts (head .sender) h (extends h entry)) (entryRules entry h)
+    (kept-fitting r k proven words counts (head .sender) n w (extends h entry)))
 
 -- ---- the entries that equal h, once it is stored
 
@@ -180,63 +181,63 @@ module _ (r : Roster) (own : ℕ) (v : ViewRecord) (s : State) where
 
   -- ---- a frame of each kind
 
-  module _ (m : Frame) where
-    heard-classic : Fit r s → settled own (v .view) s (onOpening r (v .view) (marksOf s) (headingOf m) 0 3) ≡ heard P1A r own v s m
+  module _ (head : Heading) (w : List ℕ) where
+    heard-classic : Fit r s → settled own (v .view) s (onOpening r (v .view) (marksOf s) head 0 3) ≡ heard P1A r own v s (frameWith head w)
     unfolding onOpening outsider notLeader sameView judged
     heard-classic f =
-        settled-judged (opening (marksOf s) (m .ballot) 0 3) _ (openingRules r (v .view) (marksOf s) (headingOf m))
+        settled-judged (opening (marksOf s) (head .ballot) 0 3) _ (openingRules r (v .view) (marksOf s) head)
         (rw (take-all limit (provenOf s) (f .short-proven), take-all limit (heldOf s) (f .short .short-held)))
 
-    heard-fast : settled own (v .view) s (onOpening r (v .view) (marksOf s) (headingOf m) 1 0) ≡ heard FAST r own v s m
+    heard-fast : settled own (v .view) s (onOpening r (v .view) (marksOf s) head 1 0) ≡ heard FAST r own v s (frameWith head w)
     unfolding onOpening outsider notLeader sameView judged
-    heard-fast = settled-judged (opening (marksOf s) (m .ballot) 1 0) _ (openingRules r (v .view) (marksOf s) (headingOf m)) refl
+    heard-fast = settled-judged (opening (marksOf s) (head .ballot) 1 0) _ (openingRules r (v .view) (marksOf s) head) refl
 
-    heard-propose : settled own (v .view) s (onProposal own (marksOf s) (heldOf s) (provenOf s) (headingOf m) (carried m)) ≡ heard PROPOSE r own v s m
+    heard-propose : settled own (v .view) s (onProposal own (marksOf s) (heldOf s) (provenOf s) head (carriedIn head w)) ≡ heard PROPOSE r own v s (frameWith head w)
     unfolding onProposal sameBallot judged
     heard-propose =
         let held = heldOf s in
-        let h = carried m in
-        settled-judged (onCommands own (marksOf s) held (provenOf s) h) _ (proposalRules (marksOf s) (headingOf m) h)
+        let h = carriedIn head w in
+        settled-judged (onCommands own (marksOf s) held (provenOf s) h) _ (proposalRules (marksOf s) head h)
         (settled-judged (onGrowth own (marksOf s) held h) _ (commandRules held (provenOf s) h) (settled-union (appended held h)))
 
-    heard-order : length (carried m) ≤ 32
-        → settled own (v .view) s (onOrder r own (v .view) (marksOf s) (heldOf s) (provenOf s) (headingOf m) (carried m)) ≡ heard P2A r own v s m
+    heard-order : length (carriedIn head w) ≤ 32
+        → settled own (v .view) s (onOrder r own (v .view) (marksOf s) (heldOf s) (provenOf s) head (carriedIn head w)) ≡ heard P2A r own v s (frameWith head w)
     unfolding onOrder outsider notLeader sameView sameBallot lags behindOf judged
     heard-order p =
-        let h = carried m in
+        let h = carriedIn head w in
         rw (Bool·not-not (eqb (s .fast) 0))
-        (settled-judged (onOrdered own (marksOf s) (heldOf s) (provenOf s) h) _ (orderRules r (v .view) (marksOf s) (headingOf m))
+        (settled-judged (onOrdered own (marksOf s) (heldOf s) (provenOf s) h) _ (orderRules r (v .view) (marksOf s) head)
         (settled-judged (signing own (marksOf s) h) _ (orderedRules (marksOf s) (heldOf s) (provenOf s) h) (settled-signing h p)))
 
-    heard-verify : length (carried m) ≤ 32 → Sized (s .verified) → r .n ≤ 16
-        → settled own (v .view) s (onVerify r (v .view) (marksOf s) (provenOf s) (s .verified .words) (s .verified .counts) (headingOf m) (carried m))
-        ≡ heard VERIFY r own v s m
+    heard-verify : length (carriedIn head w) ≤ 32 → Sized (s .verified) → r .n ≤ 16
+        → settled own (v .view) s (onVerify r (v .view) (marksOf s) (provenOf s) (s .verified .words) (s .verified .counts) head (carriedIn head w))
+        ≡ heard VERIFY r own v s (frameWith head w)
     unfolding onVerify sameView sameBallot entryOf judged
     heard-verify p z n =
-        let entry = rowOf (s .verified) (m .sender) in
-        let h = carried m in
-        settled-judged (onEntry r (marksOf s) (provenOf s) (s .verified .words) (s .verified .counts) (m .sender) h) _
-        (verifyRules r (v .view) (marksOf s) (headingOf m) h)
-        (settled-judged (fitting r (marksOf s) (provenOf s) (s .verified .words) (s .verified .counts) (m .sender) h (extends h entry)) _ (entryRules entry h)
-        (settled-fitting (m .sender) h p z n (extends h entry)))
+        let entry = rowOf (s .verified) (head .sender) in
+        let h = carriedIn head w in
+        settled-judged (onEntry r (marksOf s) (provenOf s) (s .verified .words) (s .verified .counts) (head .sender) h) _
+        (verifyRules r (v .view) (marksOf s) head h)
+        (settled-judged (fitting r (marksOf s) (provenOf s) (s .verified .words) (s .verified .counts) (head .sender) h (extends h entry)) _ (entryRules entry h)
+        (settled-fitting (head .sender) h p z n (extends h entry)))
 
     -- ---- any frame
 
-    settled-frame : length (carried m) ≤ 32 → Sized (s .verified) → Fit r s
+    settled-frame : length (carriedIn head w) ≤ 32 → Sized (s .verified) → Fit r s
         → settled own (v .view) s
-        (onFrame r own (v .view) (marksOf s) (heldOf s) (provenOf s) (s .verified .words) (s .verified .counts) (headingOf m) (m .words))
-        ≡ heard (kindOf (m .kind)) r own v s m
+        (onFrame r own (v .view) (marksOf s) (heldOf s) (provenOf s) (s .verified .words) (s .verified .counts) head w)
+        ≡ heard (kindOf (head .kind)) r own v s (frameWith head w)
     unfolding onFrame onCarried
-    settled-frame p z f = go (eqb (m .kind) 1) (eqb (m .kind) 2) (eqb (m .kind) 4) (eqb (m .kind) 5)
+    settled-frame p z f = go (eqb (head .kind) 1) (eqb (head .kind) 2) (eqb (head .kind) 4) (eqb (head .kind) 5)
       where
         go : (a b c d : Bool)
             → settled own (v .view) s
-            (cond a (onOpening r (v .view) (marksOf s) (headingOf m) 0 3)
-            (cond b (onOpening r (v .view) (marksOf s) (headingOf m) 1 0)
-            (cond c (onProposal own (marksOf s) (heldOf s) (provenOf s) (headingOf m) (carried m))
-            (cond d (onOrder r own (v .view) (marksOf s) (heldOf s) (provenOf s) (headingOf m) (carried m))
-            (onVerify r (v .view) (marksOf s) (provenOf s) (s .verified .words) (s .verified .counts) (headingOf m) (carried m))))))
-            ≡ heard (cond a P1A (cond b FAST (cond c PROPOSE (cond d P2A VERIFY)))) r own v s m
+            (cond a (onOpening r (v .view) (marksOf s) head 0 3)
+            (cond b (onOpening r (v .view) (marksOf s) head 1 0)
+            (cond c (onProposal own (marksOf s) (heldOf s) (provenOf s) head (carriedIn head w))
+            (cond d (onOrder r own (v .view) (marksOf s) (heldOf s) (provenOf s) head (carriedIn head w))
+            (onVerify r (v .view) (marksOf s) (provenOf s) (s .verified .words) (s .verified .counts) head (carriedIn head w))))))
+            ≡ heard (cond a P1A (cond b FAST (cond c PROPOSE (cond d P2A VERIFY)))) r own v s (frameWith head w)
         go true b c d = heard-classic f
         go false true c d = heard-fast
         go false false true d = heard-propose
@@ -245,17 +246,25 @@ module _ (r : Roster) (own : ℕ) (v : ViewRecord) (s : State) where
 
   -- ---- a line
 
-  pub settled-line : (room : ℕ) (line : List ℕ) → Sized (s .verified) → settled own (v .view) s (onLine r own room v s line) ≡ step r own room v s line
-  unfolding onReading step
-  settled-line room line z =
-      let m = received line in
-      let one = onFrame r own (v .view) (marksOf s) (heldOf s) (provenOf s) (s .verified .words) (s .verified .counts) (headingOf m) (m .words) in
-      let read = judged (against (marksOf s)) one (form line gives Form ∷ []) in
-      let other = accepted (kindOf (m .kind)) r own v s m in
-      let rules = frameRules (kindOf (m .kind)) r v s m in
-      settled-judged read _ (config r own room v s gives Config ∷ []) (settled-judged one _ (form line gives Form ∷ []) refl)
-      ∙ judged-later (refuse s) _ other (config r own room v s) Config [] (form line gives Form ∷ rules)
-      (λ e.
-      judged-none (refuse s) _
-      ∙ judged-later (refuse s) (settled own (v .view) s one) other (form line) Form [] rules
-      (λ f. judged-none (refuse s) (settled own (v .view) s one) ∙ settled-frame m (carried-short line) z (fit r own room v s e)))
+  -- the step, of what is read of the line
+  abbrev stepOn : ℕ → Reading → Reply State
+  stepOn room o =
+      let k = kindOf (o .frame .kind) in
+      judged (refuse s) (accepted k r own v s (o .frame)) (config r own room v s gives Config ∷ not (o .found) gives Form ∷ frameRules k r v s (o .frame))
+
+  pub settled-line : (room : ℕ) (line : List ℕ) (head : Heading) (w : List ℕ) → readingWith head w ≡ readingOf line taken → Sized (s .verified)
+      → settled own (v .view) s (onLine r own room v s head w) ≡ step r own room v s line
+  unfolding step malformed
+  settled-line room line head w p z =
+      let m = frameWith head w in
+      let none = not (head .found) in
+      let one = onFrame r own (v .view) (marksOf s) (heldOf s) (provenOf s) (s .verified .words) (s .verified .counts) head w in
+      let other = accepted (kindOf (head .kind)) r own v s m in
+      let rules = frameRules (kindOf (head .kind)) r v s m in
+      let short = subst (λ (o : Reading). length (carried (o .frame)) ≤ 32) (sym p) (carried-short line) in
+      settled-judged one _ (config r own room v s gives Config ∷ none gives Form ∷ []) refl
+      ∙ judged-later (refuse s) (settled own (v .view) s one) other (config r own room v s) Config (none gives Form ∷ []) (none gives Form ∷ rules)
+      (λ c.
+      judged-later (refuse s) (settled own (v .view) s one) other none Form [] rules
+      (λ f. judged-none (refuse s) (settled own (v .view) s one) ∙ settled-frame head w short z (fit r own room v s c)))
+      ∙ ap (stepOn room) p

@@ -8,7 +8,9 @@ ghost use Rattle.history.specs.Words.{validStored};
 ghost use Rattle.table.specs.Table.{tableOf};
 ghost use Rattle.site.specs.Reply.{sends};
 ghost use Rattle.acceptor.specs.Acceptor as spec;
+ghost use Rattle.acceptor.specs.Parts as parts;
 ghost use Rattle.acceptor.specs.Verdict as verdict;
+use frame::Heading;
 use history::History;
 use refusal::Answer;
 use refusal::Refusal;
@@ -58,15 +60,6 @@ pub struct Settled {
     pub answer: Answer,
     pub sent: usize,
     pub marks: Marks,
-}
-
-// The small fields of a frame.
-struct Heading {
-    kind: u8,
-    sender: u8,
-    view: View,
-    ballot: Ballot,
-    n: u8,
 }
 
 // What is decided of a line before the state is changed: the answer; the marks after it; whether the table is emptied; whether the history becomes
@@ -157,18 +150,18 @@ fn take(marks: Marks, ballot: Ballot, fast: u8, kind: u8) -> Verdict
 }
 
 // The verdict on a P1A or FAST, which opens a ballot and answers a frame of this kind.
-fn start(r: Roster, view: View, marks: Marks, e: Heading, fast: u8, kind: u8) -> Verdict
-    ensures { λ d. ⌜ d ≡ verdict.onOpening r view marks e fast kind .verdict ⌝ }
+fn start(r: Roster, view: View, marks: Marks, head: Heading, fast: u8, kind: u8) -> Verdict
+    ensures { λ d. ⌜ d ≡ verdict.onOpening r view marks head fast kind .verdict ⌝ }
 {
-    let unknown = outsider(r, e.sender, e.view);
+    let unknown = outsider(r, head.sender, head.view);
     if unknown {
         return against(marks, Refusal::Sender);
     }
-    let stale = !((e.view.0 == view.0) & (marks.ballot.0 < e.ballot.0));
+    let stale = !((head.view.0 == view.0) & (marks.ballot.0 < head.ballot.0));
     if stale {
         return against(marks, Refusal::Stale);
     }
-    take(marks, e.ballot, fast, kind)
+    take(marks, head.ballot, fast, kind)
 }
 
 // The verdict that stores h as a site's entry, and leaves these marks.
@@ -269,23 +262,23 @@ fn propose(
     marks: Marks,
     held: &[u64],
     proven: &[u64],
-    e: Heading,
+    head: Heading,
     buf: &mut [u64],
 ) -> Verdict
-    requires { ⌜ (length (now held) ≤ 32) × (e .n ≤ 32) × (length (now buf) ≡ 64) ⌝ }
-    ensures { λ d. ⌜ verdict.ruled d (now (buf .exit)) ≡ verdict.onProposal own marks (now (held .entry)) (now (proven .entry)) e (verdict.carriedIn e (now (buf .entry))) ⌝ }
+    requires { ⌜ (length (now held) ≤ 32) × (head .n ≤ 32) × (length (now buf) ≡ 64) ⌝ }
+    ensures { λ d. ⌜ verdict.ruled d (now (buf .exit)) ≡ verdict.onProposal own marks (now (held .entry)) (now (proven .entry)) head (verdict.carriedIn head (now (buf .entry))) ⌝ }
 {
-    let nobody = e.sender == 0;
+    let nobody = head.sender == 0;
     if nobody {
         return against(marks, Refusal::Sender);
     }
-    let stale = !((e.ballot.0 == marks.ballot.0) & !(marks.fast == 0));
+    let stale = !((head.ballot.0 == marks.ballot.0) & !(marks.fast == 0));
     if stale {
         return against(marks, Refusal::Stale);
     }
-    let n = e.n as usize;
+    let n = head.n as usize;
     let h = &buf[..n];
-    let wrong = !command::all_valid(h) | !command::all_by(e.sender, h);
+    let wrong = !command::all_valid(h) | !command::all_by(head.sender, h);
     if wrong {
         return against(marks, Refusal::Command);
     }
@@ -340,18 +333,18 @@ fn order(
     marks: Marks,
     held: &[u64],
     proven: &[u64],
-    e: Heading,
+    head: Heading,
     h: &[u64],
 ) -> Verdict
     requires { ⌜ length (now h) ≤ 32 ⌝ }
-    ensures { λ d. ⌜ d ≡ verdict.onOrder r own view marks (now (held .entry)) (now (proven .entry)) e (now (h .entry)) .verdict ⌝ }
+    ensures { λ d. ⌜ d ≡ verdict.onOrder r own view marks (now (held .entry)) (now (proven .entry)) head (now (h .entry)) .verdict ⌝ }
 {
-    let unknown = outsider(r, e.sender, e.view);
+    let unknown = outsider(r, head.sender, head.view);
     if unknown {
         return against(marks, Refusal::Sender);
     }
-    let present = e.ballot.0 == marks.ballot.0;
-    let stale = !((e.view.0 == view.0) & (present & (marks.fast == 0)));
+    let present = head.ballot.0 == marks.ballot.0;
+    let stale = !((head.view.0 == view.0) & (present & (marks.fast == 0)));
     if stale {
         return against(marks, Refusal::Stale);
     }
@@ -471,17 +464,17 @@ fn verify<'a>(
     proven: &[u64],
     words: &'a [u64],
     counts: &'a [u8],
-    e: Heading,
+    head: Heading,
     h: &[u64],
 ) -> Verdict
     requires { ⌜ (r .n ≤ 16) × (length (now h) ≤ 32) ⌝ }
-    ensures { λ d. ⌜ d ≡ verdict.onVerify r view marks (now (proven .entry)) (now (words .entry)) (now (counts .entry)) e (now (h .entry)) .verdict ⌝ }
+    ensures { λ d. ⌜ d ≡ verdict.onVerify r view marks (now (proven .entry)) (now (words .entry)) (now (counts .entry)) head (now (h .entry)) .verdict ⌝ }
 {
-    let unknown = r.n <= e.sender;
+    let unknown = r.n <= head.sender;
     if unknown {
         return against(marks, Refusal::Sender);
     }
-    let stale = !((e.view.0 == view.0) & (e.ballot.0 == marks.ballot.0));
+    let stale = !((head.view.0 == view.0) & (head.ballot.0 == marks.ballot.0));
     if stale {
         return against(marks, Refusal::Stale);
     }
@@ -493,7 +486,7 @@ fn verify<'a>(
     if improper {
         return against(marks, Refusal::History);
     }
-    enter(r, marks, proven, words, counts, e.sender, h)
+    enter(r, marks, proven, words, counts, head.sender, h)
 }
 
 // The verdict on a frame with the words of buf that carries a history, by its kind. A PROPOSE leaves in buf what it signs.
@@ -506,23 +499,23 @@ fn weigh<'a>(
     proven: &[u64],
     words: &'a [u64],
     counts: &'a [u8],
-    e: Heading,
+    head: Heading,
     buf: &mut [u64],
 ) -> Verdict
-    requires { ⌜ verdict.Sizes r (now held) (e .n) (now buf) ⌝ }
-    ensures { λ d. ⌜ verdict.ruled d (now (buf .exit)) ≡ verdict.onCarried r own view marks (now (held .entry)) (now (proven .entry)) (now (words .entry)) (now (counts .entry)) e (now (buf .entry)) ⌝ }
+    requires { ⌜ verdict.Sizes r (now held) (head .n) (now buf) ⌝ }
+    ensures { λ d. ⌜ verdict.ruled d (now (buf .exit)) ≡ verdict.onCarried r own view marks (now (held .entry)) (now (proven .entry)) (now (words .entry)) (now (counts .entry)) head (now (buf .entry)) ⌝ }
 {
-    let proposal = e.kind == PROPOSE;
+    let proposal = head.kind == PROPOSE;
     if proposal {
-        return propose(own, marks, held, proven, e, buf);
+        return propose(own, marks, held, proven, head, buf);
     }
-    let n = e.n as usize;
+    let n = head.n as usize;
     let h = &buf[..n];
-    let ordered = e.kind == P2A;
+    let ordered = head.kind == P2A;
     if ordered {
-        return order(r, own, view, marks, held, proven, e, h);
+        return order(r, own, view, marks, held, proven, head, h);
     }
-    verify(r, view, marks, proven, words, counts, e, h)
+    verify(r, view, marks, proven, words, counts, head, h)
 }
 
 // The verdict on a frame with the words of buf, by its kind.
@@ -535,26 +528,26 @@ fn hear<'a>(
     proven: &[u64],
     words: &'a [u64],
     counts: &'a [u8],
-    e: Heading,
+    head: Heading,
     buf: &mut [u64],
 ) -> Verdict
-    requires { ⌜ verdict.Sizes r (now held) (e .n) (now buf) ⌝ }
-    ensures { λ d. ⌜ verdict.ruled d (now (buf .exit)) ≡ verdict.onFrame r own view marks (now (held .entry)) (now (proven .entry)) (now (words .entry)) (now (counts .entry)) e (now (buf .entry)) ⌝ }
+    requires { ⌜ verdict.Sizes r (now held) (head .n) (now buf) ⌝ }
+    ensures { λ d. ⌜ verdict.ruled d (now (buf .exit)) ≡ verdict.onFrame r own view marks (now (held .entry)) (now (proven .entry)) (now (words .entry)) (now (counts .entry)) head (now (buf .entry)) ⌝ }
 {
-    let classic = e.kind == P1A;
+    let classic = head.kind == P1A;
     if classic {
-        return start(r, view, marks, e, 0, P1B);
+        return start(r, view, marks, head, 0, P1B);
     }
-    let fast = e.kind == FAST;
+    let fast = head.kind == FAST;
     if fast {
-        return start(r, view, marks, e, 1, 0);
+        return start(r, view, marks, head, 1, 0);
     }
-    weigh(r, own, view, marks, held, proven, words, counts, e, buf)
+    weigh(r, own, view, marks, held, proven, words, counts, head, buf)
 }
 
 // Whether a history of so many words may be lent: at most 32 commands, and valid.
 fn sound(count: u8, words: &[u64]) -> bool
-    ensures { λ b. ⌜ b ≡ validStored (verdict.historyOf count (now (words .entry))) ⌝ }
+    ensures { λ b. ⌜ b ≡ validStored (parts.historyOf count (now (words .entry))) ⌝ }
 {
     let n = count as usize;
     let fits = n <= History::LIMIT;
@@ -578,7 +571,7 @@ fn config<'a>(
     counts: &'a [u8],
     words: &'a [u64],
 ) -> bool
-    ensures { λ b. ⌜ b ≡ spec.config r own room v (verdict.stateOf marks «held_count» (now (held .entry)) «proven_count» (now (proven .entry)) (now (counts .entry)) (now (words .entry))) ⌝ }
+    ensures { λ b. ⌜ b ≡ spec.config r own room v (parts.stateOf marks «held_count» (now (held .entry)) «proven_count» (now (proven .entry)) (now (counts .entry)) (now (words .entry))) ⌝ }
 {
     !(site::seated(r, own, room)
         & (v.is_valid(r.n)
@@ -588,40 +581,7 @@ fn config<'a>(
                         & table::rows_valid(words, counts, r.n))))))
 }
 
-// The verdict on a line in a state that will do. The history that it speaks of is left at the front of buf.
-fn receive<'a>(
-    r: Roster,
-    own: u8,
-    view: View,
-    marks: Marks,
-    held: &[u64],
-    proven: &[u64],
-    words: &'a [u64],
-    counts: &'a [u8],
-    line: &[u8],
-    buf: &mut [u64; 64],
-) -> Verdict
-    requires { ⌜ verdict.Short r (now held) ⌝ }
-    ensures { λ d. ⌜ verdict.ruled d (now (buf .exit)) ≡ verdict.onReading r own view marks (now (held .entry)) (now (proven .entry)) (now (words .entry)) (now (counts .entry)) (now (line .entry)) ⌝ }
-{
-    let f = frame::read_into(line, TAKEN, buf);
-    let found = f.found;
-    if !found {
-        return against(marks, Refusal::Form);
-    }
-    let asked = f.view;
-    let ballot = f.ballot;
-    let e = Heading {
-        kind: f.kind,
-        sender: f.sender,
-        view: asked,
-        ballot,
-        n: f.n,
-    };
-    hear(r, own, view, marks, held, proven, words, counts, e, buf)
-}
-
-// The verdict on a line, where CONFIG applies or not. The history that it speaks of is left at the front of buf.
+// The verdict on what was read of a line, where CONFIG applies or not. The history that it speaks of is left at the front of buf.
 fn judge<'a>(
     unfit: bool,
     r: Roster,
@@ -632,16 +592,20 @@ fn judge<'a>(
     proven: &[u64],
     words: &'a [u64],
     counts: &'a [u8],
-    line: &[u8],
+    head: Heading,
     buf: &mut [u64; 64],
 ) -> Verdict
-    requires { ⌜ (unfit ≡ false → verdict.Short r (now held)) ⌝ }
-    ensures { λ d. ⌜ verdict.ruled d (now (buf .exit)) ≡ verdict.onTested unfit r own view marks (now (held .entry)) (now (proven .entry)) (now (words .entry)) (now (counts .entry)) (now (line .entry)) ⌝ }
+    requires { ⌜ (unfit ≡ false → verdict.Short r (now held)) × (head .n ≤ 32) ⌝ }
+    ensures { λ d. ⌜ verdict.ruled d (now (buf .exit)) ≡ verdict.onReading unfit r own view marks (now (held .entry)) (now (proven .entry)) (now (words .entry)) (now (counts .entry)) head (now (buf .entry)) ⌝ }
 {
     if unfit {
         return against(marks, Refusal::Config);
     }
-    receive(r, own, view, marks, held, proven, words, counts, line, buf)
+    let found = head.found;
+    if !found {
+        return against(marks, Refusal::Form);
+    }
+    hear(r, own, view, marks, held, proven, words, counts, head, buf)
 }
 
 // Sends the P1B that reports what is proven and what is held.
@@ -727,7 +691,7 @@ fn count_of(h: &[u64]) -> u8
 
 // Makes h the history of this count and these words, if it is due.
 fn replace(due: bool, h: &[u64], count: &mut u8, words: &mut [u64; 32])
-    ensures { λ r. ⌜ verdict.historyOf (now (count .exit)) (now (words .exit)) ≡ verdict.replaced due (now (h .entry)) (verdict.historyOf (now (count .entry)) (now (words .entry))) ⌝ }
+    ensures { λ r. ⌜ parts.historyOf (now (count .exit)) (now (words .exit)) ≡ verdict.replaced due (now (h .entry)) (parts.historyOf (now (count .entry)) (now (words .entry))) ⌝ }
 {
     if !due {
         return;
@@ -794,23 +758,48 @@ pub fn step_in_place(
     line: &[u8],
     out: &mut [u8],
 ) -> Settled
-    ensures { λ o. ⌜ (verdict.outcomeOf o (now («held_count» .exit)) (now (held .exit)) (now («proven_count» .exit)) (now (proven .exit)) (now (counts .exit)) (now (words .exit)) ≡ spec.returned r own v (verdict.stateOf marks (now («held_count» .entry)) (now (held .entry)) (now («proven_count» .entry)) (now (proven .entry)) (now (counts .entry)) (now (words .entry))) (now (line .entry)) (now (out .entry))) × (now (out .exit) ≡ spec.output r own v (verdict.stateOf marks (now («held_count» .entry)) (now (held .entry)) (now («proven_count» .entry)) (now (proven .entry)) (now (counts .entry)) (now (words .entry))) (now (line .entry)) (now (out .entry))) ⌝ }
+    ensures { λ o. ⌜ (parts.outcomeOf o (now («held_count» .exit)) (now (held .exit)) (now («proven_count» .exit)) (now (proven .exit)) (now (counts .exit)) (now (words .exit)) ≡ spec.returned r own v (parts.stateOf marks (now («held_count» .entry)) (now (held .entry)) (now («proven_count» .entry)) (now (proven .entry)) (now (counts .entry)) (now (words .entry))) (now (line .entry)) (now (out .entry))) × (now (out .exit) ≡ spec.output r own v (parts.stateOf marks (now («held_count» .entry)) (now (held .entry)) (now («proven_count» .entry)) (now (proven .entry)) (now (counts .entry)) (now (words .entry))) (now (line .entry)) (now (out .entry))) ⌝ }
 {
     let mut buf = [0u64; 64];
+    let head = frame::read_into(line, TAKEN, &mut buf);
     let n = *held_count;
     let m = *proven_count;
-    let ours: &[u64] = held;
-    let theirs: &[u64] = proven;
-    let sums: &[u8] = counts;
-    let rows: &[u64] = words;
+    let held_words: &[u64] = held;
+    let proven_words: &[u64] = proven;
+    let entry_counts: &[u8] = counts;
+    let entries: &[u64] = words;
     let room = out.len();
-    let unfit = config(r, own, room, v, marks, n, ours, m, theirs, sums, rows);
-    let g = history::first(ours, n as usize);
-    let k = history::first(theirs, m as usize);
+    let unfit = config(
+        r,
+        own,
+        room,
+        v,
+        marks,
+        n,
+        held_words,
+        m,
+        proven_words,
+        entry_counts,
+        entries,
+    );
+    let held_now = history::first(held_words, n as usize);
+    let proven_now = history::first(proven_words, m as usize);
     let view = v.view;
-    let d = judge(unfit, r, own, view, marks, g, k, rows, sums, line, &mut buf);
+    let d = judge(
+        unfit,
+        r,
+        own,
+        view,
+        marks,
+        held_now,
+        proven_now,
+        entries,
+        entry_counts,
+        head,
+        &mut buf,
+    );
     let h = front(&buf, d.count);
-    let sent = reply(own, view, d, h, g, k, out);
+    let sent = reply(own, view, d, h, held_now, proven_now, out);
     replace(d.signs, h, held_count, held);
     replace(d.proves, h, proven_count, proven);
     update(d.opens, d.stores, d.site, h, counts, words);

@@ -11,7 +11,7 @@ use Rattle.site.specs.Site as views
 use Rattle.acceptor.specs.declared.Outcome as accepting
 use Rattle.acceptor.specs.declared.Marks.{Marks}
 use Rattle.acceptor.specs.Acceptor as acceptor
-use Rattle.acceptor.specs.Verdict.{stateOf}
+use Rattle.acceptor.specs.Parts.{stateOf}
 use Rattle.leader.specs.declared.Outcome as leading
 use Rattle.leader.specs.declared.State as leading-state
 use Rattle.leader.specs.declared.Marks as leading-marks

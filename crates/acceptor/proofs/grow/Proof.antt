@@ -1,7 +1,6 @@
 -- `acceptor::grow` meets its contract: the buffer begins with what is held and the new commands, and what is left there is what is signed.
 -- Assumes nothing.
 use mathlib.Core.Path.{sym}
-use native.Mathlib.Omega.{arith}
 use lib.Seq.{length-take-le}
 use Rattle.acceptor.proofs.Tests.{grown}
 use borrow.Author.Needs.{needs}

@@ -15,7 +15,7 @@ returns c =
     let if1 = c .before .if1 in
     let given = c .before .before .before .before .before .before .before .before .args in
     let start-call = c .start in
-    rw (if1 .taken) (ruled-kept (given .buf .now) (onOpening (given .r) (given .view) (given .marks) (given .e) 0 3) (kept-opening (given .r) (given .view) (given .marks) (given .e) 0 3 (given .buf .now)) (start-call .ensures))
+    rw (if1 .taken) (ruled-kept (given .buf .now) (onOpening (given .r) (given .view) (given .marks) (given .head) 0 3) (kept-opening (given .r) (given .view) (given .marks) (given .head) 0 3 (given .buf .now)) (start-call .ensures))
 
 start-requires-2 : tie.Need-start-requires-2
 start-requires-2 c κs = search needs
@@ -27,7 +27,7 @@ returns-2 c =
     let if2 = c .before .if2 in
     let given = c .before .before .before .before .before .before .before .before .before .before .args in
     let start2-call = c .start2 in
-    rw (if1 .left, if2 .taken) (ruled-kept (given .buf .now) (onOpening (given .r) (given .view) (given .marks) (given .e) 1 0) (kept-opening (given .r) (given .view) (given .marks) (given .e) 1 0 (given .buf .now)) (start2-call .ensures))
+    rw (if1 .left, if2 .taken) (ruled-kept (given .buf .now) (onOpening (given .r) (given .view) (given .marks) (given .head) 1 0) (kept-opening (given .r) (given .view) (given .marks) (given .head) 1 0 (given .buf .now)) (start2-call .ensures))
 
 weigh-requires : tie.Need-weigh-requires
 weigh-requires c κs = search needs

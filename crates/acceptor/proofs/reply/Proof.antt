@@ -8,7 +8,7 @@ use Rattle.acceptor.proofs.reply.Tie as tie
 returns : tie.Need-returns
 returns c =
     let if1 = c .if1 in
-    rw (if1 .taken) (record { size = refl; left = refl })
+    rw (if1 .taken) (refl, refl)
 
 report-requires : tie.Need-report-requires
 report-requires c κs = search needs

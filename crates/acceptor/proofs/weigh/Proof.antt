@@ -34,7 +34,7 @@ slice-aggregate-h c = sym (length-take-le _ _ (omega arith))
 order-requires : tie.Need-order-requires
 order-requires c κs =
     let given = c .before .before .before .before .before .before .before .before .before .before .before .args in
-    omega (arith, length-take-le (given .e .n) (given .buf .now) (omega arith))
+    omega (arith, length-take-le (given .head .n) (given .buf .now) (omega arith))
 
 same-length-2 : tie.Need-same-length-2
 same-length-2 c = search needs
@@ -46,14 +46,14 @@ returns-2 c =
     let if1 = c .before .before .before .before .before .if1 in
     let if2 = c .before .if2 in
     let order-call = c .order in
-    let h = carriedIn (given .e) (given .buf .now) in
-    rw (if1 .left, if2 .taken) (ruled-kept (given .buf .now) (onOrder (given .r) (given .own) (given .view) (given .marks) (given .held .now) (given .proven .now) (given .e) h) (kept-order (given .r) (given .own) (given .view) (given .marks) (given .held .now) (given .proven .now) (given .e) (given .e .n) (given .buf .now)) (order-call .ensures))
+    let h = carriedIn (given .head) (given .buf .now) in
+    rw (if1 .left, if2 .taken) (ruled-kept (given .buf .now) (onOrder (given .r) (given .own) (given .view) (given .marks) (given .held .now) (given .proven .now) (given .head) h) (kept-order (given .r) (given .own) (given .view) (given .marks) (given .held .now) (given .proven .now) (given .head) (given .head .n) (given .buf .now)) (order-call .ensures))
 
 verify-requires : tie.Need-verify-requires
 verify-requires c κs =
     let sizes = c .before .before .before .before .before .before .before .before .before .before .before .pre in
     let given = c .before .before .before .before .before .before .before .before .before .before .before .args in
-    (sizes .fit .few-sites, omega (arith, length-take-le (given .e .n) (given .buf .now) (omega arith)))
+    (sizes .fit .few-sites, omega (arith, length-take-le (given .head .n) (given .buf .now) (omega arith)))
 
 same-length-3 : tie.Need-same-length-3
 same-length-3 c = search needs
@@ -65,8 +65,8 @@ returns-3 c =
     let if1 = c .before .before .before .before .before .if1 in
     let if2 = c .before .if2 in
     let verify-call = c .verify in
-    let h = carriedIn (given .e) (given .buf .now) in
-    rw (if1 .left, if2 .left) (ruled-kept (given .buf .now) (onVerify (given .r) (given .view) (given .marks) (given .proven .now) (given .words .now) (given .counts .now) (given .e) h) (kept-verify (given .r) (given .view) (given .marks) (given .proven .now) (given .words .now) (given .counts .now) (given .e) (given .e .n) (given .buf .now)) (verify-call .ensures))
+    let h = carriedIn (given .head) (given .buf .now) in
+    rw (if1 .left, if2 .left) (ruled-kept (given .buf .now) (onVerify (given .r) (given .view) (given .marks) (given .proven .now) (given .words .now) (given .counts .now) (given .head) h) (kept-verify (given .r) (given .view) (given .marks) (given .proven .now) (given .words .now) (given .counts .now) (given .head) (given .head .n) (given .buf .now)) (verify-call .ensures))
 
 pub weigh-spec : {M : Type 1} → statement M
 weigh-spec =
