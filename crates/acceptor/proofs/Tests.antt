@@ -13,24 +13,23 @@ use Rattle.history.specs.WordsLaws.{extends-within}
 use Rattle.merge.specs.Merge.{appendedIn}
 use Rattle.merge.specs.AppendingLaws.{appended-in-work, take-appended, append-bound}
 use Rattle.roster.specs.declared.Roster.{Roster}
-use Rattle.roster.specs.declared.View.{View}
 use Rattle.table.specs.Table.{row, tableOf}
-use Rattle.table.specs.TableLaws.{length-row}
+use Rattle.table.specs.TableLaws.{Sized, length-row}
 use Rattle.refusal.specs.declared.Refusal.{Refusal}
 use Rattle.refusal.specs.declared.Refusal.the-variants.{Contradiction}
 use Rattle.refusal.specs.declared.Answer.the-variants.{Accepted}
 use Rattle.refusal.specs.Rules.{judged}
 use Rattle.frame.specs.declared.Heading.{Heading}
+use Rattle.frame.specs.Format.{readingOf, readingWith}
 use Rattle.site.specs.declared.ViewRecord.{ViewRecord}
-use Rattle.site.specs.Reply.{Reply, buffer}
 use Rattle.acceptor.specs.declared.State.{State}
 use Rattle.acceptor.specs.declared.Settled.{Settled}
 use Rattle.acceptor.specs.declared.Marks.{Marks}
 use Rattle.acceptor.specs.declared.Verdict.{Verdict}
-use Rattle.acceptor.specs.Acceptor.{heldOf, provenOf, config, outcome}
+use Rattle.acceptor.specs.Acceptor.{taken, heldOf, provenOf, config, step, returned, output}
 use Rattle.acceptor.specs.Parts.{marksOf, historyOf, outcomeOf}
-use Rattle.acceptor.specs.Verdict.{ruled, given, idle, against, putting, proving, arranged, United, onUnion, agreeing, convinces, onStore, onEntry, onReading, onLine, Handed, sendingOf, replaced, entered, settled}
-use Rattle.acceptor.specs.VerdictLaws.{ruled-kept, kept-union}
+use Rattle.acceptor.specs.Verdict.{ruled, given, idle, against, putting, proving, arranged, United, onUnion, agreeing, convinces, onStore, onEntry, onReading, onLine, Short, Handed, sendingOf, replaced, entered, settled}
+use Rattle.acceptor.specs.VerdictLaws.{fit, ruled-kept, kept-union, settled-line}
 
 -- the code's test of extension, of a list of at most 32 commands
 pub extends-is : (h g : List ℕ) (b : Bool) → length h ≤ 32 → b ≡ extendsWithin 64 h g → extends h g ≡ b
@@ -105,22 +104,34 @@ pub grown : {d : Verdict} (own : ℕ) (k : Marks) (x w l more : List ℕ) → x 
     → ruled d (l ++ more) ≡ onUnion own k w
 grown own k x w l more e a = ruled-kept (l ++ more) (onUnion own k x) (rw (a .1) (kept-union own k x more)) (a .0) ∙ ap (onUnion own k) e
 
--- what was read of a line in a state: b is the test of CONFIG, h and g are what is held and what is proven
-pub line-tested : (r : Roster) (own room : ℕ) (v : ViewRecord) (s : State) (head : Heading) (w h g : List ℕ) (b : Bool) → b ≡ config r own room v s → h ≡ heldOf s → g ≡ provenOf s
-    → onReading b r own (v .view) (marksOf s) h g (s .verified .words) (s .verified .counts) head w ≡ onLine r own room v s head w
-line-tested r own room v s head w h g b f p q = rw (f, p, q)
+-- ---- a step in place: b is the test of CONFIG, and g and k are what is held and what is proven
 
--- ---- a step in place: x is what the line gives, d the verdict on it, w the buffer with its history
+module _ (r : Roster) (own : ℕ) (v : ViewRecord) (s : State) (line out : List ℕ) (b : Bool) (g k : List ℕ) (e : b ≡ config r own (length out) v s)
+    (p : g ≡ heldOf s) (q : k ≡ provenOf s) where
+  -- where CONFIG does not apply what is held is short
+  pub short-if-fit : b ≡ false → Short r g
+  short-if-fit f = rw p (fit r own (length out) v s (sym e ∙ f) .short)
 
-module _ (own : ℕ) (view : View) (s : State) (out : List ℕ) (x : Reply State) (d : Verdict) (w : List ℕ) (e : settled own view s (ruled d w) ≡ x) where
-  -- h is that history, g and k what is held and what is proven; then the parts after the step, the length sent, the buffer that is left, and what is given
-  pub carried-out : (h g k : List ℕ) (i : ℕ) (held : List ℕ) (j : ℕ) (proven counts words : List ℕ) (n : ℕ) (l : List ℕ) (o : Settled)
-      → h ≡ take (d .count) w → g ≡ heldOf s → k ≡ provenOf s
-      → Handed (sendingOf own view d h g k) n out l
+  -- the verdict on what was read, w being the frame's words and x those that are left, does what the definitions say of the line
+  settled-reading : (head : Heading) (w : List ℕ) (d : Verdict) (x : List ℕ) → readingWith head w ≡ readingOf line taken → Sized (s .verified)
+      → ruled d x ≡ onReading b r own (v .view) (marksOf s) g k (s .verified .words) (s .verified .counts) head w
+      → settled own (v .view) s (ruled d x) ≡ step r own (length out) v s line
+  settled-reading head w d x f z y =
+      let tested : onReading b r own (v .view) (marksOf s) g k (s .verified .words) (s .verified .counts) head w ≡ onLine r own (length out) v s head w =
+      rw (e, p, q) in
+      ap (settled own (v .view) s) (y ∙ tested) ∙ settled-line r own v s (length out) line head w f z
+
+  -- h is the history of the verdict; then the parts after the step, the length sent, the buffer that is left, and what is returned
+  pub carried-out : (head : Heading) (w : List ℕ) (d : Verdict) (x h : List ℕ) (i : ℕ) (held : List ℕ) (j : ℕ) (proven counts words : List ℕ) (n : ℕ) (l : List ℕ) (o : Settled)
+      → readingWith head w ≡ readingOf line taken → Sized (s .verified)
+      → ruled d x ≡ onReading b r own (v .view) (marksOf s) g k (s .verified .words) (s .verified .counts) head w
+      → h ≡ take (d .count) x
+      → Handed (sendingOf own (v .view) d h g k) n out l
       → historyOf i held ≡ replaced (d .signs) h (s .held)
       → historyOf j proven ≡ replaced (d .proves) h (s .proven)
       → tableOf words counts ≡ entered (d .opens) (d .stores) (d .site) h (s .verified)
       → o ≡ given d n
-      → (outcomeOf o i held j proven counts words ≡ outcome x out) × (l ≡ buffer (x .sending) out)
-  carried-out h g k i held j proven counts words n l o f a b p y z u q =
-      (rw (← e, q, y, z, u, p .0, a, b, f), p .1 ∙ rw (← e, a, b, f))
+      → (outcomeOf o i held j proven counts words ≡ returned r own v s line out) × (l ≡ output r own v s line out)
+  carried-out head w d x h i held j proven counts words n l o f z y a c t u m made =
+      let done = settled-reading head w d x f z y in
+      (rw (← done, made, t, u, m, c .0, p, q, a), c .1 ∙ rw (← done, p, q, a))

@@ -1,4 +1,5 @@
--- A state of its parts. A call in place is lent the parts of a state, not the state: its contract says of the state that they make what it is to say.
+-- A state of its parts: a call in place is lent the parts of a state, and its contract speaks of the state that they make. The contract cites this file
+-- and Acceptor.antt alone; what Verdict.antt has is for the proofs.
 use mathlib.Core.List.{List}
 use Prim.Native.Nat.{ℕ}
 use Rattle.history.specs.declared.History.{History}

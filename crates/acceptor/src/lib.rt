@@ -245,11 +245,12 @@ fn lengthen(
     if !ahead {
         return against(marks, Refusal::Behind);
     }
-    let reused = merge::reuses(held, &buf[..n]);
+    let h = &buf[..n];
+    let reused = merge::reuses(held, h);
     if reused {
         return against(marks, Refusal::Reused);
     }
-    let nothing = merge::nothing_new(held, &buf[..n]);
+    let nothing = merge::nothing_new(held, h);
     if nothing {
         return against(marks, Refusal::Nothing);
     }
@@ -518,43 +519,23 @@ fn weigh<'a>(
     verify(r, view, marks, proven, words, counts, head, h)
 }
 
-// The verdict on a frame with the words of buf, by its kind.
-fn hear<'a>(
-    r: Roster,
-    own: u8,
-    view: View,
-    marks: Marks,
-    held: &[u64],
-    proven: &[u64],
-    words: &'a [u64],
-    counts: &'a [u8],
-    head: Heading,
-    buf: &mut [u64],
-) -> Verdict
-    requires { ⌜ verdict.Sizes r (now held) (head .n) (now buf) ⌝ }
-    ensures { λ d. ⌜ verdict.ruled d (now (buf .exit)) ≡ verdict.onFrame r own view marks (now (held .entry)) (now (proven .entry)) (now (words .entry)) (now (counts .entry)) head (now (buf .entry)) ⌝ }
+// The commands of a history of this count and these words.
+fn commands<'a>(count: u8, words: &'a [u64; 32]) -> &'a [u64]
+    ensures { λ h. ⌜ now h ≡ take count (now (words .entry)) ⌝ }
 {
-    let classic = head.kind == P1A;
-    if classic {
-        return start(r, view, marks, head, 0, P1B);
-    }
-    let fast = head.kind == FAST;
-    if fast {
-        return start(r, view, marks, head, 1, 0);
-    }
-    weigh(r, own, view, marks, held, proven, words, counts, head, buf)
+    let all: &'a [u64] = words;
+    history::first(all, count as usize)
 }
 
-// Whether a history of so many words may be lent: at most 32 commands, and valid.
-fn sound(count: u8, words: &[u64]) -> bool
+// Whether a history of this count and these words may be lent: at most 32 commands, and valid.
+fn sound(count: u8, words: &[u64; 32]) -> bool
     ensures { λ b. ⌜ b ≡ validStored (parts.historyOf count (now (words .entry))) ⌝ }
 {
-    let n = count as usize;
-    let fits = n <= History::LIMIT;
+    let fits = count as usize <= History::LIMIT;
     if !fits {
         return false;
     }
-    history::valid(history::first(words, n))
+    history::valid(commands(count, words))
 }
 
 // Whether the roster, the own number, the room, the record or the state is one that no step takes.
@@ -565,9 +546,9 @@ fn config<'a>(
     v: ViewRecord,
     marks: Marks,
     held_count: u8,
-    held: &[u64],
+    held: &[u64; 32],
     proven_count: u8,
-    proven: &[u64],
+    proven: &[u64; 32],
     counts: &'a [u8],
     words: &'a [u64],
 ) -> bool
@@ -581,7 +562,8 @@ fn config<'a>(
                         & table::rows_valid(words, counts, r.n))))))
 }
 
-// The verdict on what was read of a line, where CONFIG applies or not. The history that it speaks of is left at the front of buf.
+// The verdict on what was read of a line, where CONFIG applies or not, and then by its kind. The history that it speaks of is left at the front of
+// buf.
 fn judge<'a>(
     unfit: bool,
     r: Roster,
@@ -605,7 +587,15 @@ fn judge<'a>(
     if !found {
         return against(marks, Refusal::Form);
     }
-    hear(r, own, view, marks, held, proven, words, counts, head, buf)
+    let classic = head.kind == P1A;
+    if classic {
+        return start(r, view, marks, head, 0, P1B);
+    }
+    let fast = head.kind == FAST;
+    if fast {
+        return start(r, view, marks, head, 1, 0);
+    }
+    weigh(r, own, view, marks, held, proven, words, counts, head, buf)
 }
 
 // Sends the P1B that reports what is proven and what is held.
@@ -762,28 +752,23 @@ pub fn step_in_place(
 {
     let mut buf = [0u64; 64];
     let head = frame::read_into(line, TAKEN, &mut buf);
-    let n = *held_count;
-    let m = *proven_count;
-    let held_words: &[u64] = held;
-    let proven_words: &[u64] = proven;
-    let entry_counts: &[u8] = counts;
+    let lengths: &[u8] = counts;
     let entries: &[u64] = words;
-    let room = out.len();
     let unfit = config(
         r,
         own,
-        room,
+        out.len(),
         v,
         marks,
-        n,
-        held_words,
-        m,
-        proven_words,
-        entry_counts,
+        *held_count,
+        held,
+        *proven_count,
+        proven,
+        lengths,
         entries,
     );
-    let held_now = history::first(held_words, n as usize);
-    let proven_now = history::first(proven_words, m as usize);
+    let held_now = commands(*held_count, held);
+    let proven_now = commands(*proven_count, proven);
     let view = v.view;
     let d = judge(
         unfit,
@@ -794,7 +779,7 @@ pub fn step_in_place(
         held_now,
         proven_now,
         entries,
-        entry_counts,
+        lengths,
         head,
         &mut buf,
     );

@@ -26,11 +26,11 @@ returns c =
     let against-call = c .against in
     rw (extends-is (given .held .now) (given .proven .now) _ (sizes .0) (extends-call .ensures) ∙ not-true _ (if1 .taken)) (refusing (given .buf .now) (against-call .ensures))
 
-slice-reshare-prefix-reuses : tie.Need-slice-reshare-prefix-reuses
-slice-reshare-prefix-reuses c = search needs
+slice-reshare-prefix-h : tie.Need-slice-reshare-prefix-h
+slice-reshare-prefix-h c = search needs
 
-slice-aggregate-reuses : tie.Need-slice-aggregate-reuses
-slice-aggregate-reuses c = sym (length-take-le _ _ (omega arith))
+slice-aggregate-h : tie.Need-slice-aggregate-h
+slice-aggregate-h c = sym (length-take-le _ _ (omega arith))
 
 reuses-requires : tie.Need-reuses-requires
 reuses-requires c κs = search needs
@@ -53,12 +53,6 @@ returns-2 c =
     let against2-call = c .against2 in
     rw (extends-is (given .held .now) (given .proven .now) _ (sizes .0) (extends-call .ensures) ∙ not-false _ (if1 .left), sym (reuses-call .ensures) ∙ if2 .taken) (refusing (given .buf .now) (against2-call .ensures))
 
-slice-reshare-prefix-nothing-new : tie.Need-slice-reshare-prefix-nothing-new
-slice-reshare-prefix-nothing-new c = search needs
-
-slice-aggregate-nothing-new : tie.Need-slice-aggregate-nothing-new
-slice-aggregate-nothing-new c = sym (length-take-le _ _ (omega arith))
-
 nothing-new-requires : tie.Need-nothing-new-requires
 nothing-new-requires c κs = search needs
 
@@ -71,12 +65,12 @@ same-length-2 c = search needs
 returns-3 : tie.Need-returns-3
 unfolding judged
 returns-3 c =
-    let given = c .before .before .before .before .before .before .before .before .before .before .before .before .args in
-    let sizes = c .before .before .before .before .before .before .before .before .before .before .before .before .pre in
-    let extends-call = c .before .before .before .before .before .before .before .before .extends in
-    let if1 = c .before .before .before .before .before .before .before .if1 in
-    let reuses-call = c .before .before .before .before .before .reuses in
-    let if2 = c .before .before .before .before .if2 in
+    let given = c .before .before .before .before .before .before .before .before .before .before .before .args in
+    let sizes = c .before .before .before .before .before .before .before .before .before .before .before .pre in
+    let extends-call = c .before .before .before .before .before .before .before .extends in
+    let if1 = c .before .before .before .before .before .before .if1 in
+    let reuses-call = c .before .before .before .before .reuses in
+    let if2 = c .before .before .before .if2 in
     let nothing-new-call = c .before .before .nothing-new in
     let if3 = c .before .if3 in
     let against3-call = c .against3 in
@@ -91,12 +85,12 @@ same-length-3 c = search needs
 returns-4 : tie.Need-returns-4
 unfolding judged
 returns-4 c =
-    let given = c .before .before .before .before .before .before .before .before .before .before .before .before .before .before .before .args in
-    let sizes = c .before .before .before .before .before .before .before .before .before .before .before .before .before .before .before .pre in
-    let extends-call = c .before .before .before .before .before .before .before .before .before .before .before .extends in
-    let if1 = c .before .before .before .before .before .before .before .before .before .before .if1 in
-    let reuses-call = c .before .before .before .before .before .before .before .before .reuses in
-    let if2 = c .before .before .before .before .before .before .before .if2 in
+    let given = c .before .before .before .before .before .before .before .before .before .before .before .before .before .before .args in
+    let sizes = c .before .before .before .before .before .before .before .before .before .before .before .before .before .before .pre in
+    let extends-call = c .before .before .before .before .before .before .before .before .before .before .extends in
+    let if1 = c .before .before .before .before .before .before .before .before .before .if1 in
+    let reuses-call = c .before .before .before .before .before .before .before .reuses in
+    let if2 = c .before .before .before .before .before .before .if2 in
     let nothing-new-call = c .before .before .before .before .before .nothing-new in
     let if3 = c .before .before .before .before .if3 in
     let grow-call = c .before .before .grow in
@@ -109,14 +103,12 @@ lengthen-spec =
     extends-requires
     against-requires
     returns
-    slice-reshare-prefix-reuses
-    slice-aggregate-reuses
+    slice-reshare-prefix-h
+    slice-aggregate-h
     reuses-requires
     against-requires-2
     same-length
     returns-2
-    slice-reshare-prefix-nothing-new
-    slice-aggregate-nothing-new
     nothing-new-requires
     against-requires-3
     same-length-2

@@ -12,12 +12,12 @@ use Rattle.acceptor.proofs.sound.Tie as tie
 returns : tie.Need-returns
 unfolding validStored
 returns c =
-    let given = c .before .before .args in
+    let given = c .before .args in
     let if1 = c .if1 in
     rw (not-true (leb (given .count) 32) (if1 .taken))
 
-first-requires : tie.Need-first-requires
-first-requires c κs = search needs
+commands-requires : tie.Need-commands-requires
+commands-requires c κs = search needs
 
 valid-requires : tie.Need-valid-requires
 valid-requires c κs = search needs
@@ -25,11 +25,11 @@ valid-requires c κs = search needs
 returns-2 : tie.Need-returns-2
 unfolding validStored
 returns-2 c =
-    let given = c .before .before .before .before .args in
+    let given = c .before .before .before .args in
     let if1 = c .before .before .if1 in
     let valid-call = c .valid in
-    let first-call = c .before .first in
-    rw (not-false (leb (given .count) 32) (if1 .left)) (valid-call .ensures ∙ ap validHistory (first-call .ensures))
+    let commands-call = c .before .commands in
+    rw (not-false (leb (given .count) 32) (if1 .left)) (valid-call .ensures ∙ ap validHistory (commands-call .ensures))
 
 pub sound-spec : {M : Type 1} → statement M
-sound-spec = tie.close (tie.spec returns first-requires valid-requires returns-2)
+sound-spec = tie.close (tie.spec returns commands-requires valid-requires returns-2)
