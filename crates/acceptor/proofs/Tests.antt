@@ -7,7 +7,7 @@ use native.Mathlib.Omega.{arith}
 use lib.ListN.{length, take, drop}
 use lib.Seq.{length-take-le}
 use Rattle.history.specs.History.{extends}
-use Rattle.history.specs.Words.{padded, extendsWithin}
+use Rattle.history.specs.Words.{historyOf, padded, extendsWithin}
 use Rattle.words.specs.WordsLaws.{take-padded}
 use Rattle.history.specs.WordsLaws.{extends-within}
 use Rattle.merge.specs.Merge.{appendedIn}
@@ -22,13 +22,14 @@ use Rattle.refusal.specs.Rules.{judged}
 use Rattle.frame.specs.declared.Heading.{Heading}
 use Rattle.frame.specs.Format.{readingOf, readingWith}
 use Rattle.site.specs.declared.ViewRecord.{ViewRecord}
+use Rattle.site.specs.Reply.{Handed}
 use Rattle.acceptor.specs.declared.State.{State}
 use Rattle.acceptor.specs.declared.Settled.{Settled}
 use Rattle.acceptor.specs.declared.Marks.{Marks}
 use Rattle.acceptor.specs.declared.Verdict.{Verdict}
 use Rattle.acceptor.specs.Acceptor.{taken, heldOf, provenOf, config, step, returned, output}
-use Rattle.acceptor.specs.Parts.{marksOf, historyOf, outcomeOf}
-use Rattle.acceptor.specs.Verdict.{ruled, given, idle, against, putting, proving, arranged, United, onUnion, agreeing, convinces, onStore, onEntry, onReading, onLine, Short, Handed, sendingOf, replaced, entered, settled}
+use Rattle.acceptor.specs.Parts.{marksOf, outcomeOf}
+use Rattle.acceptor.specs.Verdict.{ruled, given, idle, against, putting, proving, arranged, United, onUnion, agreeing, convinces, onStore, onEntry, onReading, onLine, Short, sendingOf, replaced, entered, settled}
 use Rattle.acceptor.specs.VerdictLaws.{fit, ruled-kept, kept-union, settled-line}
 
 -- the code's test of extension, of a list of at most 32 commands

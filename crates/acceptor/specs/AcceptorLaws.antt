@@ -9,7 +9,7 @@ use lib.ListN.{length, length-take}
 use Rattle.roster.specs.declared.Roster.{Roster}
 use Rattle.roster.specs.Roster.{quorum}
 use Rattle.roster.specs.Mask.{reaches}
-use Rattle.roster.specs.SitesLaws.{and-left, and-right}
+use Rattle.basics.specs.Bools.{and-left, and-right}
 use Rattle.history.specs.History.{Extends, extends, canonical}
 use Rattle.history.specs.ExtensionLaws.{extends-refl, extends-sound}
 use Rattle.history.specs.Words.{limit}

@@ -2,7 +2,7 @@
 -- and Acceptor.antt alone; what Verdict.antt has is for the proofs.
 use mathlib.Core.List.{List}
 use Prim.Native.Nat.{ℕ}
-use Rattle.history.specs.declared.History.{History}
+use Rattle.history.specs.Words.{historyOf}
 use Rattle.table.specs.Table.{tableOf}
 use Rattle.acceptor.specs.declared.State.{State}
 use Rattle.acceptor.specs.declared.Outcome.{Outcome}
@@ -12,10 +12,6 @@ use Rattle.acceptor.specs.declared.Marks.{Marks}
 -- what a state keeps beside its histories and its table
 abbrev pub marksOf : State → Marks
 marksOf s = record { ballot = s .ballot; fast = s .fast; signed = s .signed; certified = s .certified; certificate = s .certificate }
-
--- a history of its count and its words
-abbrev pub historyOf : ℕ → List ℕ → History
-historyOf n w = record { count = n; words = w }
 
 -- the state of its parts: the marks, the count and the words of what is held and of what is proven, the counts and the words of the table
 abbrev pub stateOf : Marks → ℕ → List ℕ → ℕ → List ℕ → List ℕ → List ℕ → State

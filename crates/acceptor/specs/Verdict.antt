@@ -33,7 +33,7 @@ use Rattle.frame.specs.declared.Heading.{Heading}
 use Rattle.site.specs.declared.ViewRecord.{ViewRecord}
 use Rattle.site.specs.Site.{isSet}
 use Rattle.site.specs.Message.{message}
-use Rattle.site.specs.Reply.{Sending, Reply, sendsIf, lengthSent, buffer}
+use Rattle.site.specs.Reply.{Sending, Reply, sendsIf}
 use Rattle.acceptor.specs.declared.State.{State}
 use Rattle.acceptor.specs.declared.Settled.{Settled}
 use Rattle.acceptor.specs.declared.Marks.{Marks}
@@ -283,10 +283,6 @@ frameOf own view d h held proven =
 
 abbrev pub sendingOf : ℕ → View → Verdict → List ℕ → List ℕ → List ℕ → Sending
 sendingOf own view d h held proven = sendsIf (not (eqb (d .kind) 0)) (frameOf own view d h held proven)
-
--- k bytes of a buffer are to be sent, and it is left so
-abbrev pub Handed : Sending → ℕ → List ℕ → List ℕ → Type 0
-Handed x k out left = (k ≡ lengthSent x out) × (left ≡ buffer x out)
 
 -- a history after it: this one if it is due, or as it was
 abbrev pub replaced : Bool → List ℕ → History → History

@@ -11,7 +11,8 @@ use lib.ListN.{length, take}
 use lib.Seq.{take-all, take-append-seam}
 use Rattle.roster.specs.declared.Roster.{Roster}
 use Rattle.roster.specs.declared.View.{View}
-use Rattle.roster.specs.SitesLaws.{mask-cong, and-left, and-right}
+use Rattle.basics.specs.Bools.{and-left, and-right}
+use Rattle.roster.specs.SitesLaws.{mask-cong}
 use Rattle.roster.specs.RosterLaws.{valid-figures}
 use Rattle.history.specs.History.{canonical, extends}
 use Rattle.history.specs.CanonicalLaws.{equal-refl, canonical-length}

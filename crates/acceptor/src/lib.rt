@@ -4,9 +4,9 @@ ghost use mathlib.Core.Path.{_≡_};
 ghost use Prim.Native.Nat.{min, _≤_};
 ghost use lib.ListN.{length, take};
 ghost use Rattle.roster.specs.Sites.{maskTo};
-ghost use Rattle.history.specs.Words.{validStored};
+ghost use Rattle.history.specs.Words.{historyOf};
 ghost use Rattle.table.specs.Table.{tableOf};
-ghost use Rattle.site.specs.Reply.{sends};
+ghost use Rattle.site.specs.Reply.{Handed, sends};
 ghost use Rattle.acceptor.specs.Acceptor as spec;
 ghost use Rattle.acceptor.specs.Parts as parts;
 ghost use Rattle.acceptor.specs.Verdict as verdict;
@@ -527,17 +527,6 @@ fn commands<'a>(count: u8, words: &'a [u64; 32]) -> &'a [u64]
     history::first(all, count as usize)
 }
 
-// Whether a history of this count and these words may be lent: at most 32 commands, and valid.
-fn sound(count: u8, words: &[u64; 32]) -> bool
-    ensures { λ b. ⌜ b ≡ validStored (parts.historyOf count (now (words .entry))) ⌝ }
-{
-    let fits = count as usize <= History::LIMIT;
-    if !fits {
-        return false;
-    }
-    history::valid(commands(count, words))
-}
-
 // Whether the roster, the own number, the room, the record or the state is one that no step takes.
 fn config<'a>(
     r: Roster,
@@ -556,8 +545,8 @@ fn config<'a>(
 {
     !(site::seated(r, own, room)
         & (v.is_valid(r.n)
-            & (sound(held_count, held)
-                & (sound(proven_count, proven)
+            & (history::lendable(held_count, held)
+                & (history::lendable(proven_count, proven)
                     & (!roster::beyond(marks.certificate, r.n)
                         & table::rows_valid(words, counts, r.n))))))
 }
@@ -600,7 +589,7 @@ fn judge<'a>(
 
 // Sends the P1B that reports what is proven and what is held.
 fn report<'a>(own: u8, marks: Marks, held: &'a [u64], proven: &'a [u64], out: &mut [u8]) -> usize
-    ensures { λ k. ⌜ verdict.Handed (sends (verdict.report own marks (now (held .entry)) (now (proven .entry)))) k (now (out .entry)) (now (out .exit)) ⌝ }
+    ensures { λ k. ⌜ Handed (sends (verdict.report own marks (now (held .entry)) (now (proven .entry)))) k (now (out .entry)) (now (out .exit)) ⌝ }
 {
     site::send(
         true,
@@ -626,7 +615,7 @@ fn notify(
     h: &[u64],
     out: &mut [u8],
 ) -> usize
-    ensures { λ k. ⌜ verdict.Handed (sends (verdict.notice kind own view ballot mask (now (h .entry)))) k (now (out .entry)) (now (out .exit)) ⌝ }
+    ensures { λ k. ⌜ Handed (sends (verdict.notice kind own view ballot mask (now (h .entry)))) k (now (out .entry)) (now (out .exit)) ⌝ }
 {
     let none: [u64; 0] = [];
     site::send(
@@ -653,7 +642,7 @@ fn reply<'a>(
     proven: &'a [u64],
     out: &mut [u8],
 ) -> usize
-    ensures { λ k. ⌜ verdict.Handed (verdict.sendingOf own view d (now (h .entry)) (now (held .entry)) (now (proven .entry))) k (now (out .entry)) (now (out .exit)) ⌝ }
+    ensures { λ k. ⌜ Handed (verdict.sendingOf own view d (now (h .entry)) (now (held .entry)) (now (proven .entry))) k (now (out .entry)) (now (out .exit)) ⌝ }
 {
     let marks = d.marks;
     let silent = d.kind == 0;
@@ -681,7 +670,7 @@ fn count_of(h: &[u64]) -> u8
 
 // Makes h the history of this count and these words, if it is due.
 fn replace(due: bool, h: &[u64], count: &mut u8, words: &mut [u64; 32])
-    ensures { λ r. ⌜ parts.historyOf (now (count .exit)) (now (words .exit)) ≡ verdict.replaced due (now (h .entry)) (parts.historyOf (now (count .entry)) (now (words .entry))) ⌝ }
+    ensures { λ r. ⌜ historyOf (now (count .exit)) (now (words .exit)) ≡ verdict.replaced due (now (h .entry)) (historyOf (now (count .entry)) (now (words .entry))) ⌝ }
 {
     if !due {
         return;

@@ -15,13 +15,13 @@ use Rattle.roster.specs.declared.Ballot.{Ballot}
 use Rattle.roster.specs.RosterLaws.{valid-figures}
 use Rattle.roster.specs.Mask.{beyond}
 use Rattle.roster.specs.MaskLaws.{mask-lt, mask-inside, beyond-false}
-use Rattle.roster.specs.SitesLaws.{and-left, and-right}
+use Rattle.basics.specs.Bools.{and-left, and-right, or-left}
 use Rattle.command.specs.Command.{wrong}
 use Rattle.command.specs.CommandLaws.{right-commands}
 use Rattle.history.specs.History.{canonical, extends, validHistory, improper}
 use Rattle.history.specs.TakesLaws.{equivalent-sym}
 use Rattle.history.specs.CanonicalLaws.{canonical-equivalent, canonical-length, canonical-is-canonical}
-use Rattle.history.specs.OrderLaws.{or-left, repeated-along, all-valid-along}
+use Rattle.history.specs.OrderLaws.{repeated-along, all-valid-along}
 use Rattle.history.specs.ValidLaws.{valid-parts, parts-valid, not-improper, valid-nil}
 use Rattle.history.specs.Words.{limit, validStored}
 use Rattle.history.specs.FitLaws.{EachFits, none, each-take, each-padded, each-along}

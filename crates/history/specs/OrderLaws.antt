@@ -4,7 +4,7 @@ use mathlib.Core.Logic.{_⊎_, inl, inr}
 use mathlib.Core.Bool.{Bool, true, false, _&&_, _||_, true≢false}
 use mathlib.Core.List.{List, _∷_, List·Memᴰ, List·Memᴰ·head, List·Memᴰ·tail}
 use Prim.Native.Nat.{ℕ}
-pub use Rattle.basics.specs.Bools.{or-left, or-right}
+use Rattle.basics.specs.Bools.{or-left, or-right}
 use Rattle.command.specs.Command.{conflict, sameRequest, validCommand, allValid}
 use Rattle.command.specs.CommandLaws.{same-refl, same-sym}
 use Rattle.history.specs.History.{Equivalent, same, swap, keep, trans, Compatible, Before, at, later, present, repeated}

@@ -15,7 +15,7 @@ use Rattle.roster.specs.declared.Ballot.{Ballot}
 use Rattle.roster.specs.Roster.{quorum}
 use Rattle.roster.specs.Mask.{reaches, withSite}
 use Rattle.history.specs.declared.History.{History}
-use Rattle.history.specs.Words.{limit, padded, commands, stored}
+use Rattle.history.specs.Words.{limit, historyOf, padded, commands, stored}
 use Rattle.words.specs.WordsLaws.{length-padded, padded-whole}
 use Rattle.history.specs.WordsLaws.{commands-stored, stored-first}
 use Rattle.merge.specs.Merge.{appended, appendedIn}
@@ -34,15 +34,15 @@ use Rattle.frame.specs.declared.Reading.{Reading}
 use Rattle.frame.specs.Layout.{first, second}
 use Rattle.frame.specs.Format.{readingOf, frameWith}
 use Rattle.site.specs.Message.{message}
-use Rattle.site.specs.Reply.{Reply, sendsIf}
+use Rattle.site.specs.Reply.{Reply, Handed, sendsIf}
 use Rattle.leader.specs.declared.State.{State}
 use Rattle.leader.specs.declared.Marks.{Marks}
 use Rattle.leader.specs.declared.Settled.{Settled}
 use Rattle.leader.specs.declared.Outcome.{Outcome}
 use Rattle.leader.specs.Leader as leader
 use Rattle.leader.specs.Leader.{P1B, taken, marksOf, pendingOf, reporting, reportIn, proposed, conclude, accepted, step, mayOpen, inBallot, invitation, opening}
-use Rattle.leader.specs.Parts.{historyOf, stateOf}
-use Rattle.leader.specs.Answers.{isAccepted, answerIn, settled, marksAfter, pendingAfter, sendsP2a, Handed, Done}
+use Rattle.leader.specs.Parts.{stateOf}
+use Rattle.leader.specs.Answers.{isAccepted, answerIn, settled, marksAfter, pendingAfter, sendsP2a, Done}
 use Rattle.leader.specs.AnswersLaws.{settled-step}
 
 -- ---- the pending commands in place

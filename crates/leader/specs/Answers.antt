@@ -18,7 +18,7 @@ use Rattle.refusal.specs.Rules.{Rule, _gives_, judged}
 use Rattle.frame.specs.declared.Frame.{Frame}
 use Rattle.frame.specs.declared.Reading.{Reading}
 use Rattle.frame.specs.Layout.{first}
-use Rattle.site.specs.Reply.{Reply, Sending, refuse, sendsIf, lengthSent, buffer}
+use Rattle.site.specs.Reply.{Reply, Sending, refuse, sendsIf, buffer}
 use Rattle.leader.specs.declared.State.{State}
 use Rattle.leader.specs.declared.Marks.{Marks}
 use Rattle.leader.specs.declared.Outcome.{Outcome}
@@ -67,10 +67,6 @@ abbrev pub sendsP2a : ℕ → View → Ballot → List ℕ → Sending
 sendsP2a own view ballot h = sendsIf (not (eqb (length h) 0)) (p2a own view ballot h)
 
 -- ---- what is left in a buffer that is lent
-
--- k bytes of the buffer are to be sent, and `left` is the buffer after that
-abbrev pub Handed : Sending → ℕ → List ℕ → List ℕ → Type 0
-Handed x k out left = (k ≡ lengthSent x out) × (left ≡ buffer x out)
 
 -- a call with `out` lent to it does this: it ends with that outcome, and `left` is the buffer that it leaves
 abbrev pub Done : Reply State → List ℕ → Outcome → List ℕ → Type 0

@@ -1,16 +1,12 @@
 -- A leader's state of its parts, and the outcome of a call in place: what the contracts of the calls in place cite.
 use mathlib.Core.List.{List}
 use Prim.Native.Nat.{ℕ}
-use Rattle.history.specs.declared.History.{History}
+use Rattle.history.specs.Words.{historyOf}
 use Rattle.table.specs.Table.{tableOf}
 use Rattle.leader.specs.declared.State.{State}
 use Rattle.leader.specs.declared.Marks.{Marks}
 use Rattle.leader.specs.declared.Settled.{Settled}
 use Rattle.leader.specs.declared.Outcome.{Outcome}
-
--- a history of its count and words
-abbrev pub historyOf : ℕ → List ℕ → History
-historyOf count words = record { count = count; words = words }
 
 -- the state of its parts: the marks, the count and the words of what is pending, and the counts and the words of the two tables
 abbrev pub stateOf : Marks → ℕ → List ℕ → List ℕ → List ℕ → List ℕ → List ℕ → State

@@ -5,13 +5,13 @@ ghost use mathlib.Core.Path.{_≡_};
 ghost use Prim.Native.Nat.{_≤_};
 ghost use lib.Dec.{ltb};
 ghost use lib.ListN.{length, take, drop};
-ghost use Rattle.history.specs.Words.{limit, stored};
+ghost use Rattle.history.specs.Words.{historyOf, limit, stored};
 ghost use Rattle.merge.specs.Merge.{appended};
 ghost use Rattle.proposal.specs.Proposal.{remaining};
 ghost use Rattle.roster.specs.Mask.{withSite};
 ghost use Rattle.table.specs.Table.{emptyTable, tableOf};
 ghost use Rattle.frame.specs.Format.{frameWith, readingWith};
-ghost use Rattle.site.specs.Reply.{sends};
+ghost use Rattle.site.specs.Reply.{Handed, sends};
 ghost use Rattle.site.specs.Site.{isSet};
 ghost use Rattle.leader.specs.Leader as spec;
 ghost use Rattle.leader.specs.Parts as parts;
@@ -80,7 +80,7 @@ const TAKEN: u16 = 1048;
 
 // Whether pending commands may be lent: at most 32, valid, no proposer and serial twice. Their order is free.
 fn pending_valid(count: u8, words: &[u64; 32]) -> bool
-    ensures { λ b. ⌜ b ≡ spec.validPending (parts.historyOf count (now (words .entry))) ⌝ }
+    ensures { λ b. ⌜ b ≡ spec.validPending (historyOf count (now (words .entry))) ⌝ }
 {
     let n = count as usize;
     let fits = n <= History::LIMIT;
@@ -344,7 +344,7 @@ fn accepts(a: Answer) -> bool
 // Appends to the pending commands those of h that are not there yet, up to 32, and leaves zeros after them.
 fn lengthen(count: &mut u8, pending: &mut [u64], h: &[u64])
     requires { ⌜ length (now pending) ≡ 32 ⌝ }
-    ensures { λ u. ⌜ parts.historyOf (now (count .exit)) (now (pending .exit)) ≡ stored (appended (take (now (count .entry)) (now (pending .entry))) (now (h .entry))) ⌝ }
+    ensures { λ u. ⌜ historyOf (now (count .exit)) (now (pending .exit)) ≡ stored (appended (take (now (count .entry)) (now (pending .entry))) (now (h .entry))) ⌝ }
 {
     let present = *count;
     let n = merge::append(pending, present as usize, h);
@@ -356,7 +356,7 @@ fn lengthen(count: &mut u8, pending: &mut [u64], h: &[u64])
 // Keeps of the pending commands those that h does not hold, and leaves zeros after them.
 fn shorten(count: &mut u8, pending: &mut [u64], h: &[u64])
     requires { ⌜ length (now pending) ≡ 32 ⌝ }
-    ensures { λ u. ⌜ parts.historyOf (now (count .exit)) (now (pending .exit)) ≡ stored (remaining (take (now (count .entry)) (now (pending .entry))) (now (h .entry))) ⌝ }
+    ensures { λ u. ⌜ historyOf (now (count .exit)) (now (pending .exit)) ≡ stored (remaining (take (now (count .entry)) (now (pending .entry))) (now (h .entry))) ⌝ }
 {
     let present = *count;
     let all: &[u64] = pending;
@@ -369,7 +369,7 @@ fn shorten(count: &mut u8, pending: &mut [u64], h: &[u64])
 // Writes the P2A of a proposal, if it is not empty, and answers the length of its line.
 fn send_p2a(own: u8, view: View, ballot: Ballot, h: &[u64], out: &mut [u8]) -> usize
     requires { ⌜ length (now h) ≤ 32 ⌝ }
-    ensures { λ k. ⌜ answers.Handed (answers.sendsP2a own view ballot (now (h .entry))) k (now (out .entry)) (now (out .exit)) ⌝ }
+    ensures { λ k. ⌜ Handed (answers.sendsP2a own view ballot (now (h .entry))) k (now (out .entry)) (now (out .exit)) ⌝ }
 {
     let none: [u64; 0] = [];
     site::send(
@@ -499,7 +499,7 @@ fn settle(
     count: &mut u8,
     pending: &mut [u64; 32],
 ) -> Settled
-    ensures { λ o. ⌜ (o ≡ record { answer = answer; sent = 0; marks = answers.marksAfter answer marks (frameWith f (now (words .entry))) }) × (parts.historyOf (now (count .exit)) (now (pending .exit)) ≡ answers.pendingAfter answer (parts.historyOf (now (count .entry)) (now (pending .entry))) (frameWith f (now (words .entry)))) ⌝ }
+    ensures { λ o. ⌜ (o ≡ record { answer = answer; sent = 0; marks = answers.marksAfter answer marks (frameWith f (now (words .entry))) }) × (historyOf (now (count .exit)) (now (pending .exit)) ≡ answers.pendingAfter answer (historyOf (now (count .entry)) (now (pending .entry))) (frameWith f (now (words .entry)))) ⌝ }
 {
     let accepted = accepts(answer);
     if !accepted {
@@ -593,7 +593,7 @@ fn pick(first: bool, a: u8, b: u8) -> u8
 
 // Sends the frame that opens a ballot, FAST where the flag is set, else P1A, and answers the length of its line.
 fn invite(own: u8, view: View, ballot: Ballot, fast: u8, out: &mut [u8]) -> usize
-    ensures { λ k. ⌜ answers.Handed (sends (spec.invitation own view ballot fast)) k (now (out .entry)) (now (out .exit)) ⌝ }
+    ensures { λ k. ⌜ Handed (sends (spec.invitation own view ballot fast)) k (now (out .entry)) (now (out .exit)) ⌝ }
 {
     let none: [u64; 0] = [];
     let kind = pick(!(fast == 0), FAST, P1A);

@@ -15,12 +15,11 @@ use Rattle.roster.specs.Roster.{quorum, leaderOf}
 use Rattle.roster.specs.RosterLaws.{valid-figures}
 use Rattle.roster.specs.Mask.{bit, reaches, beyond}
 use Rattle.roster.specs.MaskLaws.{with-bit-same, with-bit-other, with-keeps, with-inside}
-use Rattle.roster.specs.SitesLaws.{and-left, and-right}
+use Rattle.basics.specs.Bools.{and-left, and-right, or-left, or-right, or-either}
 use Rattle.command.specs.Command.{allValid, wrong, allBy}
 use Rattle.command.specs.CommandLaws.{right-commands}
 use Rattle.history.specs.declared.History.{History}
 use Rattle.history.specs.History.{Extends, repeated, isCanonical, validHistory}
-use Rattle.history.specs.OrderLaws.{or-left, or-right}
 use Rattle.history.specs.ValidLaws.{valid-nil, valid-parts, parts-valid}
 use Rattle.history.specs.Words.{limit, commands, stored}
 use Rattle.history.specs.WordsLaws.{commands-stored}
@@ -489,10 +488,6 @@ remaining-stored r own room s h p =
     let short = pending-length (s .pending) (configured-is r own room s p .lent .pending-valid) in
     commands-stored (remaining (pendingOf s) h) (omega (arith, remaining-short (pendingOf s) h))
 
-either : (a b : Bool) → (a || b) ≡ true → (a ≡ true) ⊎ (b ≡ true)
-either true b e = inl refl
-either false b e = inr e
-
 module _ {r : Roster} {own room : ℕ} {s : State} {line : List ℕ} (c : ℕ) (e : holds (pendingOf s) c ≡ true) (a : Reports r own room s line) where
   -- a proposal takes it along or leaves it
   on-proposal : NotLost c
@@ -500,7 +495,7 @@ module _ {r : Roster} {own room : ℕ} {s : State} {line : List ℕ} (c : ℕ) (
   on-proposal =
       let t = reporting s (received line) in
       ⊎-elim (λ p. goes refl (rw (p2a-carries r own t) p)) (λ p. waits (rw (remaining-stored r own room s (proposed r t) (a .configured)) p))
-      (either (holds (proposed r t) c) _ (kept-or-proposed (pendingOf s) (proposed r t) c e))
+      (or-either (holds (proposed r t) c) _ (kept-or-proposed (pendingOf s) (proposed r t) c e))
 
   -- an empty one leaves it
   on-nothing : proposed r (reporting s (received line)) ≡ [] → NotLost c (accept (concluded r (reporting s (received line))) silent)

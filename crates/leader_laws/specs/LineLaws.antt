@@ -14,7 +14,7 @@ use Rattle.roster.specs.declared.Ballot.{Ballot}
 use Rattle.roster.specs.MaskLaws.{beyond-false}
 use Rattle.command.specs.Command.{wrong}
 use Rattle.command.specs.CommandLaws.{right-commands}
-use Rattle.history.specs.OrderLaws.{or-left}
+use Rattle.basics.specs.Bools.{or-left}
 use Rattle.history.specs.ValidLaws.{valid-nil, valid-parts}
 use Rattle.history.specs.Words.{limit, stored}
 use Rattle.history.specs.FitLaws.{EachFits, none, each-take, each-padded}

@@ -9,8 +9,7 @@ use native.Mathlib.Numerals.{add-one}
 use native.Mathlib.Omega.{arith}
 use lib.Dec.{ltb}
 use borrow.Author.Tests.{ltb-true, ltb-false}
-pub use Rattle.basics.specs.Bools.{and-left, and-right}
-use Rattle.basics.specs.Bools.{and-both, true-or-false}
+use Rattle.basics.specs.Bools.{and-left, and-right, and-both, true-or-false}
 use Rattle.roster.specs.Sites.{toNat, countTo, allTo, maskTo}
 
 -- ---- tests as numbers

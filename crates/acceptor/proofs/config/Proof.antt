@@ -12,11 +12,11 @@ seated-requires c κs = search needs
 is-valid-requires : tie.Need-is-valid-requires
 is-valid-requires c κs = search needs
 
-sound-requires : tie.Need-sound-requires
-sound-requires c κs = search needs
+lendable-requires : tie.Need-lendable-requires
+lendable-requires c κs = search needs
 
-sound-requires-2 : tie.Need-sound-requires-2
-sound-requires-2 c κs = search needs
+lendable-requires-2 : tie.Need-lendable-requires-2
+lendable-requires-2 c κs = search needs
 
 beyond-requires : tie.Need-beyond-requires
 beyond-requires c κs = search needs
@@ -27,13 +27,8 @@ rows-valid-requires c κs = search needs
 returns : tie.Need-returns
 unfolding config validTable
 returns c =
-    let seated-call = c .before .before .before .before .before .seated in
-    let is-valid-call = c .before .before .before .before .is-valid in
-    let sound-call = c .before .before .before .sound in
-    let sound2-call = c .before .before .sound2 in
-    let beyond-call = c .before .beyond in
-    let rows-valid-call = c .rows-valid in
-    rw (seated-call .ensures, is-valid-call .ensures, sound-call .ensures, sound2-call .ensures, beyond-call .ensures, rows-valid-call .ensures)
+    let tested = c .before .before .before .before .before .before in
+    rw (tested .before .seated .ensures, tested .is-valid .ensures, c .before .before .before .before .lendable .ensures, c .before .before .lendable2 .ensures, c .before .beyond .ensures, c .rows-valid .ensures)
 
 pub config-spec : {M : Type 1} → statement M
 config-spec =
@@ -41,8 +36,8 @@ config-spec =
     (tie.spec
     seated-requires
     is-valid-requires
-    sound-requires
-    sound-requires-2
+    lendable-requires
+    lendable-requires-2
     beyond-requires
     rows-valid-requires
     returns)

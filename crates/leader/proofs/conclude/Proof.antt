@@ -4,7 +4,8 @@ use native.Mathlib.Omega.{arith}
 use denote.Ref.{now}
 use lib.ListN.{length-take}
 use borrow.Author.Tests.{not-true, not-false}
-use Rattle.leader.specs.Parts.{stateOf, historyOf}
+use Rattle.history.specs.Words.{historyOf}
+use Rattle.leader.specs.Parts.{stateOf}
 use Rattle.leader.proofs.Calls.{concludes-not, concludes}
 use borrow.Author.Needs.{needs}
 use Rattle.leader.proofs.conclude.Statement.{statement}

@@ -5,7 +5,8 @@ use borrow.Author.Needs.{needs}
 use Rattle.frame.specs.declared.Reading.{Reading}
 use Rattle.frame.specs.Format.{readingWith}
 use Rattle.frame.specs.FormatLaws.{read-n}
-use Rattle.leader.specs.Parts.{historyOf, stateOf}
+use Rattle.history.specs.Words.{historyOf}
+use Rattle.leader.specs.Parts.{stateOf}
 use Rattle.leader.proofs.Calls.{reports, settles, steps}
 use Rattle.leader.proofs.step_in_place.Statement.{statement}
 use Rattle.leader.proofs.step_in_place.Tie as tie
