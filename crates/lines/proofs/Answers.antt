@@ -1,5 +1,5 @@
 -- An answer's line: a number has three digits at most, and what is written one part after the other is the line with zeros after it.
-use Prim.Native.Nat.{ℕ, suc, _+_, _-_, _/_, _%_, _≤_}
+use Prim.Native.Nat.{ℕ, suc, _+_, _/_, _%_, _≤_}
 use native.Mathlib.Nat.{add-zero, zero-add, add-suc, suc-add}
 use native.Mathlib.Numerals.{add-one}
 use native.Mathlib.Omega.{arith}
@@ -10,8 +10,11 @@ use lib.Dec.{ltb}
 use lib.ListN.{length, drop, set, replicate, length-append, length-replicate}
 use lib.Seq.{sets, sets-eq}
 use Rattle.basics.specs.Lists.{drop-zeros}
+use Rattle.words.specs.Words.{padded}
+use Rattle.words.specs.WordsLaws.{padded-zeros}
+use Rattle.frame.specs.Format.{lineFeed}
 use Rattle.lines.specs.declared.Text.{Text}
-use Rattle.lines.specs.Lines.{lineFeed, space, digit, decimal, answerLine, answerText}
+use Rattle.lines.specs.Lines.{space, digit, decimal, answerLine, answerText}
 
 pub decimal-short : (n : ℕ) → length (decimal n) ≤ 3
 unfolding decimal
@@ -51,11 +54,12 @@ module _ (n s : ℕ) where
       ∙ ap (λ (k : ℕ). sets (sets l 0 (decimal n)) k (space ∷ rest)) p
       ∙ sets-append l 0 (decimal n) (space ∷ rest)
 
-  padded : sets (zeros 8) 0 (answerLine n s) ≡ answerLine n s ++ zeros (8 - length (answerLine n s))
-  padded =
+  on-zeros : sets (zeros 8) 0 (answerLine n s) ≡ padded 8 (answerLine n s)
+  on-zeros =
       sets-eq (answerLine n s) (zeros 8) 0 (omega (arith, line-short, length-replicate {A = ℕ} 8 0))
       ∙ ap (λ (k : ℕ). answerLine n s ++ drop k (zeros 8)) (zero-add (length (answerLine n s)))
       ∙ ap (λ (z : List ℕ). answerLine n s ++ z) (drop-zeros (length (answerLine n s)) 8)
+      ∙ padded-zeros 8 (answerLine n s) line-short
 
   -- so the text is the answer's, whatever its parts are called
   pub text-is : (at end : ℕ) (a b : List ℕ)
@@ -67,5 +71,5 @@ module _ (n s : ℕ) where
   unfolding answerText
   text-is at end a b p q r t =
       let size : end + 1 ≡ length (answerLine n s) = omega (arith, line-length) in
-      let bytes : set b end lineFeed ≡ answerLine n s ++ zeros (8 - length (answerLine n s)) = rw (t, q, r) (written (zeros 8) at p ∙ padded) in
+      let bytes : set b end lineFeed ≡ padded 8 (answerLine n s) = rw (t, q, r) (written (zeros 8) at p ∙ on-zeros) in
       λ i. record { len = size i; bytes = bytes i }

@@ -1,18 +1,17 @@
 -- The lines of the learner's program: the first line, "N and f, two hex bytes (a bad one counts as N=0)"; what is kept of a line while
 -- it arrives; and the answer to each later line, "answer and supporters in decimal, as `0 4`".
-use Prim.Native.Nat.{ℕ, _+_, _-_, _/_, _%_}
+use Prim.Native.Nat.{ℕ, _+_, _/_, _%_}
 use mathlib.Core.Bool.{Bool, cond, _&&_}
 use mathlib.Core.List.{List, [], _∷_, _++_}
 use lib.Dec.{ltb, eqb}
-use lib.ListN.{length, getD, set, replicate}
+use lib.ListN.{length, getD, set}
+use Rattle.words.specs.Words.{padded}
 use Rattle.roster.specs.declared.Roster.{Roster}
 use Rattle.frame.specs.Hex.{isDigit, byteOf}
+use Rattle.frame.specs.Format.{lineFeed}
 use Rattle.lines.specs.declared.Text.{Text}
 
--- the characters of a line feed and of a space
-abbrev pub lineFeed : ℕ
-lineFeed = 10
-
+-- the character of a space
 abbrev pub space : ℕ
 space = 32
 
@@ -66,5 +65,5 @@ unfoldable pub answerText : ℕ → ℕ → Text
 answerText n s =
     record {
       len = length (answerLine n s);
-      bytes = answerLine n s ++ replicate (8 - length (answerLine n s)) 0;
+      bytes = padded 8 (answerLine n s);
     }
