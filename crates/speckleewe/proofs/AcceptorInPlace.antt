@@ -71,9 +71,9 @@ use Rattle.speckleewe.proofs.SiteOutcome as Z
 use Rattle.speckleewe.proofs.SiteOutcome.Laws as Z′
 use Rattle.speckleewe.proofs.Reply as Y
 use Rattle.speckleewe.proofs.Reply.Laws as Y′
-use Rattle.speckleewe.proofs.Parts.{Part, ty, valOf, ref, lending, returned, byte, bytes as octets, words, fields as cells, Rest, apart, together}
+use Rattle.speckleewe.proofs.Parts.{Part, ty, valOf, lending, returned, byte, bytes as octets, words, fields as cells, Rest, apart, together}
 use Rattle.speckleewe.proofs.Arguments.{Argument, rowAt, struct, number, bytes}
-use Rattle.speckleewe.proofs.Lent.{step-slot, entry-slot, loaded, opened}
+use Rattle.speckleewe.proofs.Lent.{ref, entry-slot, loaded, opened}
 
 -- the site and its laws; its parts, with their types; the marks; and the outcome of the step
 abbrev R : Declared

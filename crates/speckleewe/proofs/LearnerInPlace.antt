@@ -51,9 +51,9 @@ use Rattle.speckleewe.specs.Outcomes.{learnerState, learns}
 use Rattle.speckleewe.specs.declared.LearnerReply.{LearnerReply}
 use Rattle.speckleewe.proofs.LearnerReply as Y
 use Rattle.speckleewe.proofs.LearnerReply.Laws as Y′
-use Rattle.speckleewe.proofs.Parts.{Part, ty, valOf, ref, lending, returned, byte, bytes as octets, words, fields as cells, Rest, apart, together}
+use Rattle.speckleewe.proofs.Parts.{Part, ty, valOf, lending, returned, byte, bytes as octets, words, fields as cells, Rest, apart, together}
 use Rattle.speckleewe.proofs.Arguments.{Argument, rowAt, struct, bytes}
-use Rattle.speckleewe.proofs.Lent.{step-slot, entry-slot, loaded, opened}
+use Rattle.speckleewe.proofs.Lent.{ref, entry-slot, loaded, opened}
 
 abbrev P₁ : Argument
 P₁ = struct N.the-type N′.the-laws

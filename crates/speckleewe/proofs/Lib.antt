@@ -1,6 +1,7 @@
 -- The walks of the entries over a lent record.
 mod Arguments
 mod Lent
+mod Entry
 mod WithBuffer
 mod Parts
 mod LearnerInPlace

@@ -23,12 +23,13 @@ use denote.RattleType.{RattleType}
 use denote.Memory.{mem, partAt, lone}
 use denote.Laws.{Is, Tells, Makes, shows}
 use denote.Shadow.{makes-shadow}
-use denote.Ref.{RefT, MutRef}
+use denote.Ref.{MutRef}
 use denote.Lend.{LentRef, lends-ref, ref-back}
 use denote.Steps.{only, owned, peeks}
 use denote.Struct.Field.{Field, u8-field, u64-field, array-field}
 use denote.Struct.Laws as LL
 use borrow.Table.OneValue.{One, part-out, part-in}
+use Rattle.speckleewe.proofs.Lent.{ref}
 
 -- a part's type, whose values are those of a field of numbers: it has one machine value, which its relation tells, and owns only facts
 pub record Part : Type 2 where
@@ -135,10 +136,6 @@ module _ {M : Type 1} (𝓤 : URA M) (H : Heap 𝓤) (A : Atoms 𝓤) (W : Given
     together us =
         via 𝓤 (sep 𝓤 (fieldsAt 𝓤 H fullShare τs 0 b o us) (Back us)) (monoR 𝓤 (fieldsAt 𝓤 H fullShare τs 0 b o us) (allE 𝓤 Back us))
         (apply∗ 𝓤 (fieldsAt 𝓤 H fullShare τs 0 b o us) (H .at fullShare (tyStruct ν τs) b o (vstruct us)))
-
--- the reference at an address, under a name, at a value
-abbrev pub ref : {X : Type 0} → ℕ → ℕ → GName → X → RefT X
-ref b o γ x = record { ptr = (b, o); name = γ; now = x }
 
 -- the same as steps of a walk
 module _ {M : Type 1} {𝓤 : URA M} {H : Heap 𝓤} {A : Atoms 𝓤} {K : Type 0} {W : Given 𝓤 H A} {Γ : List (Item 𝓤)} {G : Goal 𝓤 H} where
