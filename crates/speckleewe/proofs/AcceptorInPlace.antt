@@ -15,6 +15,7 @@ use base.Fml.{Lft, Share, GName, ftrue, fat, flft, fobs, fbor}
 use prog.Wp.{Heap, Calls, Loops, WpFn, Tables}
 use ghost.Atoms.{Atoms, sem}
 use contract.Monad.{fact}
+use contract.Lifetimes.{Lfts}
 use types.Kit.{Given, ‵, raw, some, later, _⊛_, ⋆, _$_, _∵_, !, qed, by, move, keep, drop, use1, use2, split, join, pick, rewrite, fsplit, fsplit3}
 use types.Kit.{fjoin, fjoin3, feqL, feqI, suffices, frame, await, done}
 use types.Run.{look, init, forget, stop, hop, fld, from, load, addr, of-opd, and-then, no-more, assigns, land, returns, enter, alloc1}
@@ -36,12 +37,11 @@ use denote.Steps.{only, closes, owned, peeks, heard, nothing}
 use denote.Struct.Struct.{layout, AreAll}
 use denote.Struct.Declared.{Declared, row, shape, fields}
 use denote.Struct.Laws as LL
-use denote.Triple.Entry.{onEntry}
-use denote.Triple.Spec.{Meets, tripleOf}
+use denote.Triple.Entry.{Args}
+use denote.Triple.Spec.{Meets}
 use denote.Triple.Statement.{Contract, Triple}
 use denote.Triple.Call.{calls-at}
-use denote.Triple.Clauses.{Ended, Clauses, ensured, lasts, closing}
-use denote.Triple.Walked.{says, Stays, stay-ref, stay-dropped, gave-slice, walkOf, AllGo, goes-ref, goes-dropped, goes-gave-slice, Walks, ends-at, walked, walk-meets}
+use denote.Triple.Clauses.{Ended, AtExit, ensured, lasts, closing}
 use Rattle.roster.specs.declared.Roster.{Roster}
 use Rattle.roster.proofs.Ballot as B
 use Rattle.roster.proofs.Ballot.Laws as B′
@@ -71,9 +71,10 @@ use Rattle.speckleewe.proofs.SiteOutcome as Z
 use Rattle.speckleewe.proofs.SiteOutcome.Laws as Z′
 use Rattle.speckleewe.proofs.Reply as Y
 use Rattle.speckleewe.proofs.Reply.Laws as Y′
-use Rattle.speckleewe.proofs.Parts.{Part, ty, valOf, lending, returned, byte, bytes as octets, words, fields as cells, Rest, apart, together}
-use Rattle.speckleewe.proofs.Arguments.{Argument, rowAt, struct, number, bytes}
-use Rattle.speckleewe.proofs.Lent.{ref, entry-slot, loaded, opened}
+use Rattle.speckleewe.proofs.Arguments.{Argument, struct, number}
+use Rattle.speckleewe.proofs.Lent.{entry-slot, buffer-slot, keeping, stating, contractOf, asks-nothing, loaded, opened}
+use Rattle.speckleewe.proofs.Entry.{Entry, Call, Walk, args, vals, passed, taken, ended, clauses, exits, meets as by-walk}
+use Rattle.speckleewe.proofs.Parts.{ty, history, table, part-slot, refs, ptrs, lending-two, returned-two, fields as cells, Rest, apart, together}
 
 -- the site and its laws; its parts, with their types; the marks; and the outcome of the step
 abbrev R : Declared
@@ -88,24 +89,6 @@ O = Z.the-type
 abbrev O′ : LL.Laws O
 O′ = Z′.the-laws
 
-abbrev L₁ : Part
-L₁ = byte
-
-abbrev L₂ : Part
-L₂ = words 32
-
-abbrev L₃ : Part
-L₃ = octets 16
-
-abbrev L₄ : Part
-L₄ = words 512
-
-abbrev tableTys : Tys
-tableTys = tcons (ty L₃) (tcons (ty L₄) tnil)
-
-abbrev historyTys : Tys
-historyTys = tcons (ty L₁) (tcons (ty L₂) tnil)
-
 abbrev stateTys : Tys
 stateTys =
     tcons (layout (shape B.the-type)) (tcons (tyInt w8) (tcons (tyInt w8) (tcons (layout (shape S.the-type)) (tcons (layout (shape S.the-type))
@@ -114,13 +97,7 @@ stateTys =
 abbrev siteTys : Tys
 siteTys = tcons (layout (shape Q.the-type)) (tcons (layout (shape T.the-type)) tnil)
 
--- the machine values of a table, a history, a state and a site
-abbrev tableVals : Table → Vals
-tableVals t = vcons (valOf L₃ (t .counts)) (vcons (valOf L₄ (t .words)) vnil)
-
-abbrev historyVals : History → Vals
-historyVals h = vcons (valOf L₁ (h .count)) (vcons (valOf L₂ (h .words)) vnil)
-
+-- the machine values of a state and of a site
 abbrev stateVals : State → Vals
 stateVals s =
     vcons (LL.val B.the-type B′.the-laws (s .ballot)) (vcons (vint w8 (s .fast)) (vcons (vint w8 (s .signed))
@@ -130,15 +107,8 @@ stateVals s =
 abbrev siteVals : Site → Vals
 siteVals s = vcons (LL.val Q.the-type Q′.the-laws (s .views)) (vcons (LL.val T.the-type T′.the-laws (s .acceptor)) vnil)
 
-abbrev marksOf : Site → Marks
-marksOf s =
-    record {
-      ballot = s .acceptor .ballot;
-      fast = s .acceptor .fast;
-      signed = s .acceptor .signed;
-      certified = s .acceptor .certified;
-      certificate = s .acceptor .certificate;
-    }
+abbrev marksOf : State → Marks
+marksOf s = record { ballot = s .ballot; fast = s .fast; signed = s .signed; certified = s .certified; certificate = s .certificate }
 
 abbrev reply : SiteOutcome → Reply
 reply d = record { answer = d .answer; sent = d .sent }
@@ -150,57 +120,26 @@ module _ (P₃ : Argument) (Rel : (κ : Lft) → Site → Roster → ℕ → P�
   abbrev P₂ : Argument
   P₂ = number w8
 
-  -- the step's contract
-  abbrev step-ended : Ended
-  step-ended = record {
-    signature = record {
-      lifetimes = 2;
-      outlives = [];
-      params =
-          plain (λ κs. Q.the-row) ∷ plain (λ κs. K.the-row) ∷ mutRefTo (0 ∷ []) tt (plain (λ κs. L₁ .type)) ∷
-          mutRefTo (0 ∷ []) tt (plain (λ κs. L₂ .type)) ∷ mutRefTo (0 ∷ []) tt (plain (λ κs. L₁ .type)) ∷ mutRefTo (0 ∷ []) tt (plain (λ κs. L₂ .type)) ∷
-          mutRefTo (0 ∷ []) tt (plain (λ κs. L₃ .type)) ∷ mutRefTo (0 ∷ []) tt (plain (λ κs. L₄ .type)) ∷
-          entry-slot P₁ ∷ entry-slot P₂ ∷ entry-slot P₃ ∷ mutSliceOf (1 ∷ []) tt (plain (λ κs. u8)) ∷ [];
-      result = plain (λ κs. row O);
-    };
-    kept = (yes, (yes, (yes, (yes, (yes, (yes, (yes, (yes, (yes, (yes, (yes, (yes, tt))))))))))));
-  }
+  -- the entry, and the step's contract
+  abbrev I : Entry
+  I = record { R = R; P₁ = P₁; P₂ = P₂; P₃ = P₃; Rel = Rel }
 
-  abbrev step-clauses : {M : Type 1} (𝓤 : URA M) → Clauses 𝓤 step-ended
-  step-clauses 𝓤 κs a = record {
-    ghost = Unit {0};
-    requires = λ g. emp 𝓤;
-    ensures =
-        λ g d e. fact 𝓤 (Rel (κs .1 .0)
-        (siteOf (a .0) (a .1 .0) (now (a .1 .1 .0)) (now (a .1 .1 .1 .0)) (now (a .1 .1 .1 .1 .0)) (now (a .1 .1 .1 .1 .1 .0)) (now (a .1 .1 .1 .1 .1 .1 .0)) (now (a .1 .1 .1 .1 .1 .1 .1 .0)))
-        (a .1 .1 .1 .1 .1 .1 .1 .1 .0) (a .1 .1 .1 .1 .1 .1 .1 .1 .1 .0) (a .1 .1 .1 .1 .1 .1 .1 .1 .1 .1 .0) (now (a .1 .1 .1 .1 .1 .1 .1 .1 .1 .1 .1 .0)) (reply d)
-        (siteOf (a .0) (d .marks) (now (e .1 .1 .0)) (now (e .1 .1 .1 .0)) (now (e .1 .1 .1 .1 .0)) (now (e .1 .1 .1 .1 .1 .0)) (now (e .1 .1 .1 .1 .1 .1 .0)) (now (e .1 .1 .1 .1 .1 .1 .1 .0)))
-        (now (e .1 .1 .1 .1 .1 .1 .1 .1 .1 .1 .1 .0)));
-  }
+  abbrev step-ended : Ended
+  step-ended =
+      keeping 2 (plain (λ κs. Q.the-row) ∷ plain (λ κs. K.the-row) ∷ part-slot (history .P) ∷ part-slot (history .Q) ∷ part-slot (history .P) ∷
+      part-slot (history .Q) ∷ part-slot (table .P) ∷ part-slot (table .Q) ∷ entry-slot P₁ ∷ entry-slot P₂ ∷ entry-slot P₃ ∷ buffer-slot ∷ [])
+      (plain (λ κs. row O))
+
+  abbrev step-says : (κs : Lfts 2) → Args (step-ended .signature) κs → SiteOutcome → AtExit step-ended κs → Type 0
+  step-says κs a d e =
+      Rel (κs .1 .0)
+      (siteOf (a .0) (a .1 .0) (now (a .1 .1 .0)) (now (a .1 .1 .1 .0)) (now (a .1 .1 .1 .1 .0)) (now (a .1 .1 .1 .1 .1 .0)) (now (a .1 .1 .1 .1 .1 .1 .0)) (now (a .1 .1 .1 .1 .1 .1 .1 .0)))
+      (a .1 .1 .1 .1 .1 .1 .1 .1 .0) (a .1 .1 .1 .1 .1 .1 .1 .1 .1 .0) (a .1 .1 .1 .1 .1 .1 .1 .1 .1 .1 .0) (now (a .1 .1 .1 .1 .1 .1 .1 .1 .1 .1 .1 .0)) (reply d)
+      (siteOf (a .0) (d .marks) (now (e .1 .1 .0)) (now (e .1 .1 .1 .0)) (now (e .1 .1 .1 .1 .0)) (now (e .1 .1 .1 .1 .1 .0)) (now (e .1 .1 .1 .1 .1 .1 .0)) (now (e .1 .1 .1 .1 .1 .1 .1 .0)))
+      (now (e .1 .1 .1 .1 .1 .1 .1 .1 .1 .1 .1 .0))
 
   abbrev Step : {M : Type 1} (𝓤 : URA M) (H : Heap 𝓤) (A : Atoms 𝓤) → Contract 𝓤
-  Step 𝓤 H A = tripleOf 𝓤 H A (step-ended .signature) (closing 𝓤 H A step-ended (step-clauses 𝓤))
-
-  -- the entry's contract
-  abbrev ended : Ended
-  ended = record {
-    signature = record {
-      lifetimes = 2;
-      outlives = [];
-      params =
-          mutRefTo (0 ∷ []) tt (plain (λ κs. row R)) ∷ entry-slot P₁ ∷ entry-slot P₂ ∷ entry-slot P₃ ∷
-          mutSliceOf (1 ∷ []) tt (plain (λ κs. u8)) ∷ [];
-      result = plain (λ κs. Y.the-row);
-    };
-    kept = (yes, (yes, (yes, (yes, (yes, tt)))));
-  }
-
-  abbrev clauses : {M : Type 1} (𝓤 : URA M) → Clauses 𝓤 ended
-  clauses 𝓤 κs a = record {
-    ghost = Unit {0};
-    requires = λ g. emp 𝓤;
-    ensures = λ g r e. fact 𝓤 (Rel (κs .1 .0) (now (a .0)) (a .1 .0) (a .1 .1 .0) (a .1 .1 .1 .0) (now (a .1 .1 .1 .1 .0)) r (now (e .0)) (now (e .1 .1 .1 .1 .0)));
-  }
+  Step = contractOf step-ended step-says
 
   -- the entry's body: the marks and the record are copied, the parts and the buffer lent on, the step called, its marks stored, and the answer built
   abbrev markOf : Place → Rv
@@ -225,9 +164,9 @@ module _ (P₃ : Argument) (Rel : (κ : Lft) → Site → Roster → ℕ → P�
         local (P₂ .mir (named 1)) valueLocal ∷ local (P₃ .mir (named 1)) valueLocal ∷ local (sliceTy (tyRef (named 1) mut (tyInt w8))) valueLocal ∷
         local (layout (shape K.the-type)) valueLocal ∷ local (layout (shape O)) valueLocal ∷ local (layout (shape B.the-type)) valueLocal ∷
         local (tyInt w8) valueLocal ∷ local (tyInt w8) valueLocal ∷ local (layout (shape B.the-type)) valueLocal ∷ local (tyInt w16) valueLocal ∷
-        local (layout (shape Q.the-type)) valueLocal ∷ local (tyRef erased mut (ty L₁)) valueLocal ∷ local (tyRef erased mut (ty L₂)) valueLocal ∷
-        local (tyRef erased mut (ty L₁)) valueLocal ∷ local (tyRef erased mut (ty L₂)) valueLocal ∷ local (tyRef erased mut (ty L₃)) valueLocal ∷
-        local (tyRef erased mut (ty L₄)) valueLocal ∷ local (tyRef erased mut (tyInt w8)) valueLocal ∷
+        local (layout (shape Q.the-type)) valueLocal ∷ local (tyRef erased mut (ty (history .P))) valueLocal ∷ local (tyRef erased mut (ty (history .Q))) valueLocal ∷
+        local (tyRef erased mut (ty (history .P))) valueLocal ∷ local (tyRef erased mut (ty (history .Q))) valueLocal ∷ local (tyRef erased mut (ty (table .P))) valueLocal ∷
+        local (tyRef erased mut (ty (table .Q))) valueLocal ∷ local (tyRef erased mut (tyInt w8)) valueLocal ∷
         local (sliceTy (tyRef erased mut (tyInt w8))) valueLocal ∷ [];
     body =
         seq (assign (place 8 []) (markOf (mark 0)))
@@ -256,138 +195,45 @@ module _ (P₃ : Argument) (Rel : (κ : Lft) → Site → Roster → ℕ → P�
         return)))))))))))))))))))));
   }
 
-  -- at exit the site is still lent, the buffer is given up, and of the arguments nothing is kept
-  abbrev stayed : Stays (ended .signature .params) (ended .kept)
-  stayed = (
-    stay-ref (0 ∷ []) tt (plain (λ κs. row R)),
-    (
-      stay-dropped (entry-slot P₁) yes,
-      (stay-dropped (entry-slot P₂) yes, (stay-dropped (entry-slot P₃) yes, (gave-slice (1 ∷ []) tt (plain (λ κs. u8)), tt))),
-    ),
-  )
+  module _ {M : Type 1} (𝓤 : URA M) (H : Heap 𝓤) (A : Atoms 𝓤) (W : Given 𝓤 H A) (c : Call I) where
+    open Call c using (κ, κᵣ, q, qᵣ, b, o, h, x₁, x₂, x₃, ys)
 
-  module _ {M : Type 1} (𝓤 : URA M) (H : Heap 𝓤) (A : Atoms 𝓤) (W : Given 𝓤 H A) (κ κᵣ : Lft) (q qᵣ : Share) (b o : ℕ) (γ : GName) (h : Site)
-      (x₁ : P₁ .at κ .Denot) (x₂ : P₂ .at κ .Denot) (x₃ : P₃ .at κ .Denot) (b′ o′ : ℕ) (γ′ : GName) (ys : List ℕ) where
-    abbrev out : RefT (List ℕ)
-    out = ref b′ o′ γ′ ys
-
-    abbrev s : Val
-    s = sliceVal (b′, o′) (length ys)
-
-    abbrev a : RefT Site × (P₁ .at κ .Denot × (P₂ .at κ .Denot × (P₃ .at κ .Denot × (RefT (List ℕ) × Unit {0}))))
-    a = (ref b o γ h, (x₁, (x₂, (x₃, (out, tt)))))
-
-    abbrev vals : List Val × (List Val × (List Val × (List Val × (List Val × Unit {0}))))
-    vals = (vptr b o ∷ [], (P₁ .val κ x₁ ∷ [], (P₂ .val κ x₂ ∷ [], (P₃ .val κ x₃ ∷ [], (s ∷ [], tt)))))
-
-    abbrev Post : Val → SProp 𝓤
-    Post = walkOf 𝓤 H A ended stayed (clauses 𝓤) .post (((κᵣ, (κ, tt)), (qᵣ, (q, tt)), tt, a, vals), tt)
-
-    abbrev handed : List RattleType
-    handed = rowAt P₁ (named 1) κ ∷ rowAt P₂ (named 1) κ ∷ rowAt P₃ (named 1) κ ∷ MutSlice (named 1) κ u8 ∷ []
-
-    -- the addresses of the parts
-    abbrev o₁ : ℕ
-    o₁ = o + 16 + 8 + 0
-
-    abbrev o₂ : ℕ
-    o₂ = o + 16 + 8 + 8
-
-    abbrev o₃ : ℕ
-    o₃ = o + 16 + 272 + 0
-
-    abbrev o₄ : ℕ
-    o₄ = o + 16 + 272 + 8
-
-    abbrev o₅ : ℕ
-    o₅ = o + 16 + 544 + 0
-
-    abbrev o₆ : ℕ
-    o₆ = o + 16 + 544 + 16
+    -- the state before
+    abbrev s : State
+    s = h .acceptor
 
     -- what the step's triple binds outside: the parts lent for ν, under these names
-    module _ (ν : ℕ) (γ₁ γ₂ γ₃ γ₄ γ₅ γ₆ : GName) where
-      abbrev to-step : Step 𝓤 H A .Ghost
-      to-step = (
+    abbrev to-step : ℕ → GName → GName → GName → GName → GName → GName → Step 𝓤 H A .Ghost
+    to-step ν γ₁ γ₂ γ₃ γ₄ γ₅ γ₆ = (
+      (
+        (ν ∷ [], (κ, tt)),
+        (fullShare, (q, tt)),
+        tt,
         (
-          (ν ∷ [], (κ, tt)),
-          (fullShare, (q, tt)),
-          tt,
+          h .views,
           (
-            h .views,
-            (
-              marksOf h,
-              (
-                ref b o₁ γ₁ (h .acceptor .held .count),
-                (
-                  ref b o₂ γ₂ (h .acceptor .held .words),
-                  (
-                    ref b o₃ γ₃ (h .acceptor .proven .count),
-                    (
-                      ref b o₄ γ₄ (h .acceptor .proven .words),
-                      (
-                        ref b o₅ γ₅ (h .acceptor .verified .counts),
-                        (ref b o₆ γ₆ (h .acceptor .verified .words), a .1),
-                      ),
-                    ),
-                  ),
-                ),
-              ),
-            ),
-          ),
-          (
-            LL.vals Q.the-type Q′.the-laws (h .views),
-            (
-              LL.vals K.the-type K′.the-laws (marksOf h),
-              (
-                vptr b o₁ ∷ [],
-                (
-                  vptr b o₂ ∷ [],
-                  (
-                    vptr b o₃ ∷ [],
-                    (vptr b o₄ ∷ [], (vptr b o₅ ∷ [], (vptr b o₆ ∷ [], vals .1))),
-                  ),
-                ),
-              ),
-            ),
+            marksOf s,
+            refs history b (o + 16 + 8) γ₁ γ₂ (s .held .count) (s .held .words)
+                (refs history b (o + 16 + 272) γ₃ γ₄ (s .proven .count) (s .proven .words)
+                (refs table b (o + 16 + 544) γ₅ γ₆ (s .verified .counts) (s .verified .words) (args I c .1))),
           ),
         ),
-        tt,
-      )
-
-      abbrev passed : List RattleType
-      passed =
-          Q.the-row ∷ K.the-row ∷ MutRef (named 0) (ν ∷ []) (L₁ .type) ∷ MutRef (named 0) (ν ∷ []) (L₂ .type) ∷ MutRef (named 0) (ν ∷ []) (L₁ .type) ∷
-          MutRef (named 0) (ν ∷ []) (L₂ .type) ∷ MutRef (named 0) (ν ∷ []) (L₃ .type) ∷ MutRef (named 0) (ν ∷ []) (L₄ .type) ∷ handed
-
-      goes : ent 𝓤 (sep 𝓤 (sep 𝓤 (A .lft (ν ∷ []) fullShare) (sep 𝓤 (A .lft κ q) (sem 𝓤 H A ftrue))) (sem 𝓤 H A (owns passed (to-step .0 .3) (to-step .0 .4))))
-          (Step 𝓤 H A .pre to-step)
-      goes =
-          qed W ((‵ (flft (ν ∷ []) fullShare) ⊛ ‵ (flft κ q) ⊛ ‵ ftrue) ∷ ‵ (owns passed (to-step .0 .3) (to-step .0 .4)) ∷ []) ∵ join ! $ frame ! $ done !
-
-    abbrev mach : SiteOutcome → Val
-    mach d = LL.val Y.the-type Y′.the-laws (reply d)
-
-    exits : (d : SiteOutcome) (t : Site) (zs : List ℕ) → Rel κ h x₁ x₂ x₃ ys (reply d) t zs → length zs ≡ length ys → Is Y.the-row (reply d) (mach d ∷ [])
-        → ent 𝓤 (⋆ 𝓤 H A (‵ (fobs γ (row R .coded .code t)) ∷ ‵ (fbor κᵣ (Borrowed (mem (row R)) b o γ)) ∷ ‵ (flft κᵣ qᵣ) ∷
-        (‵ (flft κ q) ⊛ ‵ ftrue) ∷ ‵ (finally u8 γ′ zs) ∷ [])) (Post (mach d))
-    exits d t zs e l is =
-        qed W (‵ (fobs γ (row R .coded .code t)) ∷ ‵ (fbor κᵣ (Borrowed (mem (row R)) b o γ)) ∷ ‵ (flft κᵣ qᵣ) ∷ (‵ (flft κ q) ⊛ ‵ ftrue) ∷
-        ‵ (finally u8 γ′ zs) ∷ []) ∵
-        suffices ! _ (ends-at 𝓤 H A ended stayed (clauses 𝓤) W (((κᵣ, (κ, tt)), (qᵣ, (q, tt)), tt, a, vals), tt) (mach d) (reply d)
-        (t, (tt, (tt, (tt, (zs, tt))))) (tt, (tt, (tt, (tt, (l, tt)))))) $
-        says ! e $ move ! (2 ∷ 3 ∷ []) $ join ! $ frame ! $
-        feqI ! (List Val) (vptr b o ∷ []) (vptr b o ∷ []) refl $ fjoin3 ! $ nothing ! $ move ! (2 ∷ 0 ∷ []) $ fjoin ! $
-        nothing ! $ fjoin ! $ nothing ! $ fjoin ! $ nothing ! $ fjoin ! $ move ! (1 ∷ 0 ∷ []) $ fjoin ! $
-        owned ! Y.the-row (Is Y.the-row) (LL.makes Y.the-type Y′.the-plain 𝓤 H A) (reply d) _ is $ move ! (1 ∷ 0 ∷ []) $ done !
+        (
+          LL.vals Q.the-type Q′.the-laws (h .views),
+          (
+            LL.vals K.the-type K′.the-laws (marksOf s),
+            ptrs history b (o + 16 + 8) (ptrs history b (o + 16 + 272) (ptrs table b (o + 16 + 544) (vals I c .1))),
+          ),
+        ),
+      ),
+      tt,
+    )
 
     module _ (#step : Name) (C : Calls 𝓤 H) (Λ : Loops 𝓤 H) (fm : FmC 𝓤 H (W .laws) C) (known : Triple 𝓤 (C #step) (Step 𝓤 H A)) where
-      walk : Is (P₁ .at κ) x₁ (vals .1 .0) → Is (P₂ .at κ) x₂ (vals .1 .1 .0) → Is (P₃ .at κ) x₃ (vals .1 .1 .1 .0) → Room u8 (length ys)
-          → ent 𝓤 (onEntry 𝓤 H A (ended .signature) (κᵣ, (κ, tt)) (qᵣ, (q, tt)) a vals)
-          (WpFn 𝓤 H C Λ (function #step) (vptr b o ∷ P₁ .val κ x₁ ∷ P₂ .val κ x₂ ∷ P₃ .val κ x₃ ∷ s ∷ []) Post)
+      walk : Walk I 𝓤 H A C Λ (function #step) c
       walk is₁ is₂ is₃ room =
-          qed W ((‵ (flft κᵣ qᵣ) ⊛ ‵ (flft κ q) ⊛ ‵ ftrue) ∷ ‵ (owns (MutRef (named 0) κᵣ (row R) ∷ handed) a vals) ∷ []) ∵
-          enter ! C Λ (function #step) (vptr b o ∷ P₁ .val κ x₁ ∷ P₂ .val κ x₂ ∷ P₃ .val κ x₃ ∷ s ∷ []) _ $
+          qed W ((‵ (flft κᵣ qᵣ) ⊛ ‵ (flft κ q) ⊛ ‵ ftrue) ∷ ‵ (owns (taken I c) (args I c) (vals I c)) ∷ []) ∵
+          enter ! C Λ (function #step) (passed I c) _ $
           alloc1 ! (λ l₀. alloc1 ! (λ l₁. alloc1 ! (λ l₂. alloc1 ! (λ l₃. alloc1 ! (λ l₄. alloc1 ! (λ l₅. alloc1 ! (λ l₆. alloc1 ! (λ l₇. alloc1 ! (λ l₈. alloc1 ! (λ l₉. alloc1 ! (λ l₁₀. alloc1 ! (λ l₁₁. alloc1 ! (λ l₁₂. alloc1 ! (λ l₁₃. alloc1 ! (λ l₁₄. alloc1 ! (λ l₁₅. alloc1 ! (λ l₁₆. alloc1 ! (λ l₁₇. alloc1 ! (λ l₁₈. alloc1 ! (λ l₁₉. alloc1 ! (λ l₂₀. alloc1 ! (λ l₂₁. alloc0 ! $ params1 ! $
           pass1 ! (init ! 40 refl (tt, tt)) $
           pass1 ! (init ! 38 refl (P₁ .typed 𝓤 H A W (named 1) κ x₁ is₁)) $
@@ -397,27 +243,27 @@ module _ (P₃ : Argument) (Rel : (κ : Lft) → Site → Roster → ℕ → P�
           move ! (45 ∷ []) $ fsplit ! $ fsplit3 ! $ drop ! $ move ! (47 ∷ []) $ split ! $ move ! (2 ∷ 3 ∷ 0 ∷ 1 ∷ []) $
           opened ! tt R R′ h b o (λ is.
           let of-site : AreAll (fields R) (R .to h) (valss (fields R) (LL.spells (R .parts) R′) (R .to h)) = LL.owed R R′ h _ is in
-          let of : AreAll (fields T.the-type) (T.the-type .to (h .acceptor)) _ = LL.owed T.the-type T′.the-laws (h .acceptor) _ (of-site .1 .0) in
-          let of-held : AreAll (fields S.the-type) (S.the-type .to (h .acceptor .held)) _ = LL.owed S.the-type S′.the-laws (h .acceptor .held) _ (of .1 .1 .1 .0) in
-          let of-proven : AreAll (fields S.the-type) (S.the-type .to (h .acceptor .proven)) _ = LL.owed S.the-type S′.the-laws (h .acceptor .proven) _ (of .1 .1 .1 .1 .0) in
-          let of-verified : AreAll (fields E.the-type) (E.the-type .to (h .acceptor .verified)) _ =
-          LL.owed E.the-type E′.the-laws (h .acceptor .verified) _ (of .1 .1 .1 .1 .1 .1 .1 .0) in
-          let marked : Is K.the-row (marksOf h) (LL.vals K.the-type K′.the-laws (marksOf h)) =
-          LL.owes K.the-type K′.the-laws (marksOf h) (of .0, (of .1 .0, (of .1 .1 .0, (of .1 .1 .1 .1 .1 .0, (of .1 .1 .1 .1 .1 .1 .0, tt))))) in
+          let of : AreAll (fields T.the-type) (T.the-type .to s) _ = LL.owed T.the-type T′.the-laws s _ (of-site .1 .0) in
+          let of-held : AreAll (fields S.the-type) (S.the-type .to (s .held)) _ = LL.owed S.the-type S′.the-laws (s .held) _ (of .1 .1 .1 .0) in
+          let of-proven : AreAll (fields S.the-type) (S.the-type .to (s .proven)) _ = LL.owed S.the-type S′.the-laws (s .proven) _ (of .1 .1 .1 .1 .0) in
+          let of-verified : AreAll (fields E.the-type) (E.the-type .to (s .verified)) _ =
+          LL.owed E.the-type E′.the-laws (s .verified) _ (of .1 .1 .1 .1 .1 .1 .1 .0) in
+          let marked : Is K.the-row (marksOf s) (LL.vals K.the-type K′.the-laws (marksOf s)) =
+          LL.owes K.the-type K′.the-laws (marksOf s) (of .0, (of .1 .0, (of .1 .1 .0, (of .1 .1 .1 .1 .1 .0, (of .1 .1 .1 .1 .1 .1 .0, tt))))) in
           use1 W (‵ (fat fullShare (layout (shape R)) b o (LL.val R R′ h))) (W .laws .raw-at fullShare (layout (shape R)) b o (LL.val R R′ h)) $
           -- [the site's cell; what it owns; the open borrow; obs; auth; the token; the arguments; _21; …; _1; …; room for _0; …]
           assigns ! (of-opd ! (load ! (from ! (hop ! (look ! 47 refl) (fld ! refl (fld ! refl (stop !))))) (look-in ! 0 (sub ! 0 refl (sub ! 1 refl (whole !)))))) (from ! (stop !))
-          (init ! 33 refl (LL.lawful B.the-type B′.the-laws 𝓤 H A W .typed (h .acceptor .ballot) _ (of .0) .0)) $
+          (init ! 33 refl (LL.lawful B.the-type B′.the-laws 𝓤 H A W .typed (s .ballot) _ (of .0) .0)) $
           assigns ! (of-opd ! (load ! (from ! (hop ! (look ! 47 refl) (fld ! refl (fld ! refl (stop !))))) (look-in ! 0 (sub ! 1 refl (sub ! 1 refl (whole !)))))) (from ! (stop !))
-          (init ! 31 refl (uint-lawful 𝓤 H A W w8 .typed (h .acceptor .fast) _ (of .1 .0) .0)) $
+          (init ! 31 refl (uint-lawful 𝓤 H A W w8 .typed (s .fast) _ (of .1 .0) .0)) $
           assigns ! (of-opd ! (load ! (from ! (hop ! (look ! 47 refl) (fld ! refl (fld ! refl (stop !))))) (look-in ! 0 (sub ! 2 refl (sub ! 1 refl (whole !)))))) (from ! (stop !))
-          (init ! 29 refl (uint-lawful 𝓤 H A W w8 .typed (h .acceptor .signed) _ (of .1 .1 .0) .0)) $
+          (init ! 29 refl (uint-lawful 𝓤 H A W w8 .typed (s .signed) _ (of .1 .1 .0) .0)) $
           assigns ! (of-opd ! (load ! (from ! (hop ! (look ! 47 refl) (fld ! refl (fld ! refl (stop !))))) (look-in ! 0 (sub ! 5 refl (sub ! 1 refl (whole !)))))) (from ! (stop !))
-          (init ! 27 refl (LL.lawful B.the-type B′.the-laws 𝓤 H A W .typed (h .acceptor .certified) _ (of .1 .1 .1 .1 .1 .0) .0)) $
+          (init ! 27 refl (LL.lawful B.the-type B′.the-laws 𝓤 H A W .typed (s .certified) _ (of .1 .1 .1 .1 .1 .0) .0)) $
           assigns ! (of-opd ! (load ! (from ! (hop ! (look ! 47 refl) (fld ! refl (fld ! refl (stop !))))) (look-in ! 0 (sub ! 6 refl (sub ! 1 refl (whole !)))))) (from ! (stop !))
-          (init ! 25 refl (uint-lawful 𝓤 H A W w16 .typed (h .acceptor .certificate) _ (of .1 .1 .1 .1 .1 .1 .0) .0)) $
+          (init ! 25 refl (uint-lawful 𝓤 H A W w16 .typed (s .certificate) _ (of .1 .1 .1 .1 .1 .1 .0) .0)) $
           assigns ! (agg ! (and-then ! (loaded ! 33 refl) (and-then ! (loaded ! 31 refl) (and-then ! (loaded ! 29 refl) (and-then ! (loaded ! 27 refl) (and-then ! (loaded ! 25 refl) (no-more !))))))) (from ! (stop !))
-          (init ! 37 refl (LL.lawful K.the-type K′.the-laws 𝓤 H A W .typed (marksOf h) _ marked .0)) $
+          (init ! 37 refl (LL.lawful K.the-type K′.the-laws 𝓤 H A W .typed (marksOf s) _ marked .0)) $
           assigns ! (of-opd ! (load ! (from ! (hop ! (look ! 47 refl) (fld ! refl (stop !)))) (look-in ! 0 (sub ! 0 refl (whole !))))) (from ! (stop !))
           (init ! 23 refl (LL.lawful Q.the-type Q′.the-laws 𝓤 H A W .typed (h .views) _ (of-site .0) .0)) $
           assigns ! (addr ! (from ! (hop ! (look ! 47 refl) (fld ! refl (fld ! refl (fld ! refl (stop !))))))) (from ! (stop !)) (init ! 21 refl (tt, tt)) $
@@ -429,71 +275,53 @@ module _ (P₃ : Argument) (Rel : (κ : Lft) → Site → Roster → ℕ → P�
           assigns ! (addr ! (from ! (fld ! refl (hop ! (look-in ! 39 (sub ! 0 refl (whole !))) (stop !))))) (from ! (stop !)) (init ! 9 refl (tt, tt)) $
           assigns ! (agg ! (and-then ! (loaded ! 9 refl) (and-then ! (load ! (from ! (fld ! refl (stop !))) (look-in ! 39 (sub ! 1 refl (whole !))))
           (no-more !)))) (from ! (stop !)) (init ! 7 refl (tt, (tt, (record { fits = room .0 }, tt)))) $
-          -- the site is taken apart, from its last field
-          move ! (1 ∷ []) $ drop ! $
+          -- the site and its state are taken apart, and the histories and the table are lent for the time of the call
+          move ! (1 ∷ []) $ drop ! $ lft-new ! tt (λ ν. move ! (1 ∷ []) $
           use1 W (cells 𝓤 H A W siteTys 0 b o (siteVals h) ⊛ raw (Rest 𝓤 H A W (R .name) siteTys b o))
           (apart 𝓤 H A W (R .name) siteTys b o (siteVals h)) $ split ! $ split ! $ move ! (1 ∷ []) $ split ! $
-          use1 W (cells 𝓤 H A W stateTys 0 b (o + 16) (stateVals (h .acceptor)) ⊛ raw (Rest 𝓤 H A W (T.the-type .name) stateTys b (o + 16)))
-          (apart 𝓤 H A W (T.the-type .name) stateTys b (o + 16) (stateVals (h .acceptor))) $ split ! $ split ! $ move ! (1 ∷ []) $ split ! $ move ! (1 ∷ []) $ split ! $ move ! (1 ∷ []) $ split ! $ move ! (1 ∷ []) $ split ! $ move ! (1 ∷ []) $ split ! $ move ! (1 ∷ []) $ split ! $ move ! (1 ∷ []) $ split ! $
-          use1 W (cells 𝓤 H A W tableTys 0 b (o + 16 + 544) (tableVals (h .acceptor .verified)) ⊛ raw (Rest 𝓤 H A W (E.the-type .name) tableTys b (o + 16 + 544)))
-          (apart 𝓤 H A W (E.the-type .name) tableTys b (o + 16 + 544) (tableVals (h .acceptor .verified))) $ split ! $ split ! $ move ! (1 ∷ []) $ split ! $
-          move ! (7 ∷ []) $
-          use1 W (cells 𝓤 H A W historyTys 0 b (o + 16 + 272) (historyVals (h .acceptor .proven)) ⊛ raw (Rest 𝓤 H A W (S.the-type .name) historyTys b (o + 16 + 272)))
-          (apart 𝓤 H A W (S.the-type .name) historyTys b (o + 16 + 272) (historyVals (h .acceptor .proven))) $ split ! $ split ! $ move ! (1 ∷ []) $ split ! $
-          move ! (11 ∷ []) $
-          use1 W (cells 𝓤 H A W historyTys 0 b (o + 16 + 8) (historyVals (h .acceptor .held)) ⊛ raw (Rest 𝓤 H A W (S.the-type .name) historyTys b (o + 16 + 8)))
-          (apart 𝓤 H A W (S.the-type .name) historyTys b (o + 16 + 8) (historyVals (h .acceptor .held))) $ split ! $ split ! $ move ! (1 ∷ []) $ split ! $
-          move ! (2 ∷ 0 ∷ 6 ∷ 4 ∷ 10 ∷ 8 ∷ []) $
-          -- the six parts are lent for a lifetime of the call
-          lft-new ! tt (λ ν.
-          move ! (1 ∷ []) $ lending ! tt L₁ (named 0) (ν ∷ []) (h .acceptor .held .count) (of-held .0) (λ γ₁.
-          move ! (3 ∷ []) $ lending ! tt L₂ (named 0) (ν ∷ []) (h .acceptor .held .words) (of-held .1 .0) (λ γ₂.
-          move ! (5 ∷ []) $ lending ! tt L₁ (named 0) (ν ∷ []) (h .acceptor .proven .count) (of-proven .0) (λ γ₃.
-          move ! (7 ∷ []) $ lending ! tt L₂ (named 0) (ν ∷ []) (h .acceptor .proven .words) (of-proven .1 .0) (λ γ₄.
-          move ! (9 ∷ []) $ lending ! tt L₃ (named 0) (ν ∷ []) (h .acceptor .verified .counts) (of-verified .0) (λ γ₅.
-          move ! (11 ∷ []) $ lending ! tt L₄ (named 0) (ν ∷ []) (h .acceptor .verified .words) (of-verified .1 .0) (λ γ₆.
-          move ! (0 ∷ 33 ∷ []) $ fjoin ! $ move ! (2 ∷ 0 ∷ []) $ fjoin ! $ move ! (3 ∷ 0 ∷ []) $ fjoin ! $ move ! (4 ∷ 0 ∷ []) $ fjoin ! $ move ! (5 ∷ 0 ∷ []) $ fjoin ! $ move ! (6 ∷ 0 ∷ []) $ fjoin ! $
-          owned ! K.the-row (Is K.the-row) (LL.makes K.the-type K′.the-plain 𝓤 H A) (marksOf h) _ marked $ fjoin ! $
+          use1 W (cells 𝓤 H A W stateTys 0 b (o + 16) (stateVals s) ⊛ raw (Rest 𝓤 H A W (T.the-type .name) stateTys b (o + 16)))
+          (apart 𝓤 H A W (T.the-type .name) stateTys b (o + 16) (stateVals s)) $ split ! $ split ! $ move ! (1 ∷ []) $ split ! $ move ! (1 ∷ []) $ split ! $
+          move ! (1 ∷ []) $ split ! $ move ! (1 ∷ []) $ split ! $ move ! (1 ∷ []) $ split ! $ move ! (1 ∷ []) $ split ! $ move ! (1 ∷ []) $ split ! $
+          -- [verified; true; certificate; certified; proven; held; signed; fast; ballot; the state's rest; true; views; the site's rest; ν; the open borrow; obs; auth; the token; the arguments; _21; …]
+          move ! (0 ∷ 18 ∷ []) $ lending-two ! tt table (ν ∷ []) (s .verified .counts) (s .verified .words) (of-verified .0) (of-verified .1 .0) (λ γ₅ γ₆.
+          move ! (7 ∷ 0 ∷ []) $ lending-two ! tt history (ν ∷ []) (s .proven .count) (s .proven .words) (of-proven .0) (of-proven .1 .0) (λ γ₃ γ₄.
+          move ! (10 ∷ 0 ∷ []) $ lending-two ! tt history (ν ∷ []) (s .held .count) (s .held .words) (of-held .0) (of-held .1 .0) (λ γ₁ γ₂.
+          -- [the references and the arguments; of held, proven and verified the two lenders' rights and the rest; true; the marks, from the last; the state's rest; true; views; the site's rest; ν; …]
+          owned ! K.the-row (Is K.the-row) (LL.makes K.the-type K′.the-plain 𝓤 H A) (marksOf s) _ marked $ fjoin ! $
           owned ! Q.the-row (Is Q.the-row) (LL.makes Q.the-type Q′.the-plain 𝓤 H A) (h .views) _ (of-site .0) $ fjoin ! $
-          move ! (7 ∷ 27 ∷ []) $ join ! $ use2 W (raw (Step 𝓤 H A .pre (to-step ν γ₁ γ₂ γ₃ γ₄ γ₅ γ₆))) (goes ν γ₁ γ₂ γ₃ γ₄ γ₅ γ₆) $
+          move ! (20 ∷ 24 ∷ []) $ join ! $ use2 W (raw (Step 𝓤 H A .pre (to-step ν γ₁ γ₂ γ₃ γ₄ γ₅ γ₆))) (asks-nothing 𝓤 _) $
           calls-at ! fm (Step 𝓤 H A) known (to-step ν γ₁ γ₂ γ₃ γ₄ γ₅ γ₆)
-          (and-then ! (loaded ! 42 refl) (and-then ! (loaded ! 56 refl) (and-then ! (loaded ! 40 refl) (and-then ! (loaded ! 38 refl) (and-then ! (loaded ! 36 refl) (and-then ! (loaded ! 34 refl) (and-then ! (loaded ! 32 refl) (and-then ! (loaded ! 30 refl) (and-then ! (loaded ! 64 refl) (and-then ! (loaded ! 62 refl) (and-then ! (loaded ! 60 refl) (and-then ! (loaded ! 26 refl) (no-more !))))))))))))) (λ w.
+          (and-then ! (loaded ! 39 refl) (and-then ! (loaded ! 53 refl) (and-then ! (loaded ! 37 refl) (and-then ! (loaded ! 35 refl) (and-then ! (loaded ! 33 refl) (and-then ! (loaded ! 31 refl) (and-then ! (loaded ! 29 refl) (and-then ! (loaded ! 27 refl) (and-then ! (loaded ! 61 refl) (and-then ! (loaded ! 59 refl) (and-then ! (loaded ! 57 refl) (and-then ! (loaded ! 23 refl) (no-more !))))))))))))) (λ w.
           use1 W (later (some (λ (d : SiteOutcome). ((‵ (flft (ν ∷ []) fullShare) ⊛ ‵ (flft κ q) ⊛ ‵ ftrue) ⊛ ‵ (row O .own d (w ∷ []))) ⊛
-          raw (ensured 𝓤 H A step-ended (step-clauses 𝓤) (ν ∷ [], (κ, tt)) (to-step ν γ₁ γ₂ γ₃ γ₄ γ₅ γ₆ .0 .3) tt d)))) (id⊢ 𝓤 _) $ await ! tt $
+          raw (ensured 𝓤 H A step-ended (stating step-ended step-says 𝓤) (ν ∷ [], (κ, tt)) (to-step ν γ₁ γ₂ γ₃ γ₄ γ₅ γ₆ .0 .3) tt d)))) (id⊢ 𝓤 _) $ await ! tt $
           pick ! (λ d. split ! $ move ! (1 ∷ []) $
           use1 W (some (λ (zs : Unit {0} × (Unit {0} × (ℕ × (List ℕ × (ℕ × (List ℕ × (List ℕ × (List ℕ × (Unit {0} × (Unit {0} × (Unit {0} × (List ℕ × Unit {0})))))))))))).
           ‵ (lasts step-ended (ν ∷ [], (κ, tt)) (to-step ν γ₁ γ₂ γ₃ γ₄ γ₅ γ₆ .0 .3) zs) ⊛
           raw (fact 𝓤 (Rel κ h x₁ x₂ x₃ ys (reply d) (siteOf (h .views) (d .marks) (zs .1 .1 .0) (zs .1 .1 .1 .0) (zs .1 .1 .1 .1 .0) (zs .1 .1 .1 .1 .1 .0) (zs .1 .1 .1 .1 .1 .1 .0) (zs .1 .1 .1 .1 .1 .1 .1 .0)) (zs .1 .1 .1 .1 .1 .1 .1 .1 .1 .1 .1 .0))))) (id⊢ 𝓤 _) $ pick ! (λ zs.
           let left : Marks → Site = λ k. siteOf (h .views) k (zs .1 .1 .0) (zs .1 .1 .1 .0) (zs .1 .1 .1 .1 .0) (zs .1 .1 .1 .1 .1 .0) (zs .1 .1 .1 .1 .1 .1 .0) (zs .1 .1 .1 .1 .1 .1 .1 .0) in
           let t : Site = left (d .marks) in
-          let mid : Site = left (marksOf h) in
+          let mid : Site = left (marksOf s) in
           split ! $ move ! (1 ∷ []) $ heard ! (Rel κ h x₁ x₂ x₃ ys (reply d) t (zs .1 .1 .1 .1 .1 .1 .1 .1 .1 .1 .1 .0)) (λ e.
           fsplit ! $ drop ! $ fsplit ! $ drop ! $ fsplit ! $ move ! (1 ∷ []) $ fsplit ! $ move ! (1 ∷ []) $ fsplit ! $ move ! (1 ∷ []) $ fsplit ! $ move ! (1 ∷ []) $ fsplit ! $ move ! (1 ∷ []) $ fsplit ! $ move ! (1 ∷ []) $ fsplit ! $ drop ! $ fsplit ! $ drop ! $ fsplit ! $ drop ! $ fsplit ! $ fsplit ! $ move ! (1 ∷ []) $ feqL ! (λ l.
           move ! (8 ∷ []) $ split ! $ split ! $ move ! (2 ∷ []) $ peeks ! (row O) (Is (row O)) (shows 𝓤 H A (row O)) d (w ∷ []) (λ are.
           let gave : AreAll (fields O) (O .to d) (valss (fields O) (LL.spells (O .parts) O′) (O .to d)) = LL.owed O O′ d _ are in
           let remarked : AreAll (fields K.the-type) (K.the-type .to (d .marks)) _ = LL.owed K.the-type K′.the-laws (d .marks) _ (gave .1 .1 .0) in
-          land ! (from ! (stop !)) (init ! 64 refl (LL.lawful O O′ 𝓤 H A W .typed d _ are .0)) $ drop ! $
-          rewrite ! 63 (λ (u : Val). ‵ (fat fullShare (layout (shape O)) l₇ 0 u)) (ap only (LL.tells O O′ d _ are)) refl $
+          land ! (from ! (stop !)) (init ! 61 refl (LL.lawful O O′ 𝓤 H A W .typed d _ are .0)) $ drop ! $
+          rewrite ! 60 (λ (u : Val). ‵ (fat fullShare (layout (shape O)) l₇ 0 u)) (ap only (LL.tells O O′ d _ are)) refl $
           -- the lifetime is ended, and the parts come back at their last values
           lft-end ! tt $
-          move ! (0 ∷ 10 ∷ 4 ∷ []) $ returned ! tt L₄ (zs .1 .1 .1 .1 .1 .1 .1 .0) (λ f₆.
-          move ! (1 ∷ 10 ∷ 5 ∷ []) $ returned ! tt L₃ (zs .1 .1 .1 .1 .1 .1 .0) (λ f₅.
-          move ! (1 ∷ 10 ∷ 6 ∷ []) $ returned ! tt L₂ (zs .1 .1 .1 .1 .1 .0) (λ f₄.
-          move ! (1 ∷ 10 ∷ 7 ∷ []) $ returned ! tt L₁ (zs .1 .1 .1 .1 .0) (λ f₃.
-          move ! (1 ∷ 10 ∷ 8 ∷ []) $ returned ! tt L₂ (zs .1 .1 .1 .0) (λ f₂.
-          move ! (1 ∷ 10 ∷ 9 ∷ []) $ returned ! tt L₁ (zs .1 .1 .0) (λ f₁.
+          -- [ν is over; the token; the buffer's last list; true; the six last values, from the last; of held, proven and verified the two rights and the rest; …]
+          move ! (0 ∷ 10 ∷ 11 ∷ 12 ∷ 9 ∷ 8 ∷ []) $ returned-two ! tt history (t .acceptor .held .count) (t .acceptor .held .words) (λ f₁ f₂.
+          move ! (1 ∷ 9 ∷ 10 ∷ 11 ∷ 8 ∷ 7 ∷ []) $ returned-two ! tt history (t .acceptor .proven .count) (t .acceptor .proven .words) (λ f₃ f₄.
+          move ! (1 ∷ 8 ∷ 9 ∷ 10 ∷ 7 ∷ 6 ∷ []) $ returned-two ! tt table (t .acceptor .verified .counts) (t .acceptor .verified .words) (λ f₅ f₆.
+          -- [verified; ν is over; proven; held; the token; the buffer's last list; true; true; certificate; certified; signed; fast; ballot; the state's rest; true; views; the site's rest; …]
           move ! (1 ∷ []) $ drop ! $
-          -- the site is put together again
-          move ! (1 ∷ 9 ∷ []) $ join ! $ move ! (1 ∷ 0 ∷ []) $ join ! $ move ! (0 ∷ 8 ∷ []) $
-          use2 W (‵ (fat fullShare (layout (shape S.the-type)) b (o + 16 + 8) (LL.val S.the-type S′.the-laws (mid .acceptor .held)))) (together 𝓤 H A W (S.the-type .name) historyTys b (o + 16 + 8) (historyVals (mid .acceptor .held))) $
-          move ! (2 ∷ 8 ∷ []) $ join ! $ move ! (2 ∷ 0 ∷ []) $ join ! $ move ! (0 ∷ 7 ∷ []) $
-          use2 W (‵ (fat fullShare (layout (shape S.the-type)) b (o + 16 + 272) (LL.val S.the-type S′.the-laws (mid .acceptor .proven)))) (together 𝓤 H A W (S.the-type .name) historyTys b (o + 16 + 272) (historyVals (mid .acceptor .proven))) $
-          move ! (3 ∷ 7 ∷ []) $ join ! $ move ! (3 ∷ 0 ∷ []) $ join ! $ move ! (0 ∷ 6 ∷ []) $
-          use2 W (‵ (fat fullShare (layout (shape E.the-type)) b (o + 16 + 544) (LL.val E.the-type E′.the-laws (mid .acceptor .verified)))) (together 𝓤 H A W (E.the-type .name) tableTys b (o + 16 + 544) (tableVals (mid .acceptor .verified))) $
-          move ! (0 ∷ 6 ∷ []) $ join ! $ move ! (6 ∷ 0 ∷ []) $ join ! $ move ! (6 ∷ 0 ∷ []) $ join ! $ move ! (1 ∷ 0 ∷ []) $ join ! $ move ! (1 ∷ 0 ∷ []) $ join ! $ move ! (4 ∷ 0 ∷ []) $ join ! $ move ! (4 ∷ 0 ∷ []) $ join ! $ move ! (4 ∷ 0 ∷ []) $ join ! $ move ! (0 ∷ 4 ∷ []) $
-          use2 W (‵ (fat fullShare (layout (shape T.the-type)) b (o + 16) (LL.val T.the-type T′.the-laws (mid .acceptor)))) (together 𝓤 H A W (T.the-type .name) stateTys b (o + 16) (stateVals (mid .acceptor))) $
+          move ! (0 ∷ 6 ∷ []) $ join ! $ move ! (6 ∷ 0 ∷ []) $ join ! $ move ! (6 ∷ 0 ∷ []) $ join ! $ move ! (1 ∷ 0 ∷ []) $ join ! $ move ! (1 ∷ 0 ∷ []) $ join ! $
+          move ! (4 ∷ 0 ∷ []) $ join ! $ move ! (4 ∷ 0 ∷ []) $ join ! $ move ! (4 ∷ 0 ∷ []) $ join ! $ move ! (0 ∷ 4 ∷ []) $
+          use2 W (‵ (fat fullShare (layout (shape T.the-type)) b (o + 16) (LL.val T.the-type T′.the-laws (mid .acceptor))))
+          (together 𝓤 H A W (T.the-type .name) stateTys b (o + 16) (stateVals (mid .acceptor))) $
           move ! (0 ∷ 4 ∷ []) $ join ! $ move ! (4 ∷ 0 ∷ []) $ join ! $ move ! (0 ∷ 4 ∷ []) $
-          use2 W (‵ (fat fullShare (layout (shape R)) b o (LL.val R R′ (mid)))) (together 𝓤 H A W (R .name) siteTys b o (siteVals mid)) $
+          use2 W (‵ (fat fullShare (layout (shape R)) b o (LL.val R R′ mid))) (together 𝓤 H A W (R .name) siteTys b o (siteVals mid)) $
           -- the marks that the step gave are stored, and the answer is built
           assigns ! (of-opd ! (load ! (from ! (fld ! refl (fld ! refl (stop !)))) (look-in ! 35 (sub ! 0 refl (sub ! 2 refl (whole !))))))
           (from ! (hop ! (look ! 47 refl) (fld ! refl (fld ! refl (stop !))))) (store-in ! 0 (sub ! 0 refl (sub ! 1 refl (whole !))) (LL.lawful B.the-type B′.the-laws 𝓤 H A W .typed (d .marks .ballot) _ (remarked .0) .0)) $
@@ -542,40 +370,9 @@ module _ (P₃ : Argument) (Rel : (κ : Lft) → Site → Roster → ℕ → P�
           forget ! 6 refl $ forget ! 8 refl $ forget ! 10 refl $ forget ! 12 refl $ forget ! 14 refl $ forget ! 16 refl $ forget ! 18 refl $ forget ! 20 refl $ forget ! 22 refl $ forget ! 24 refl $ forget ! 26 refl $ forget ! 28 refl $ forget ! 30 refl $ forget ! 32 refl $ forget ! 34 refl $ forget ! 36 refl $ forget ! 38 refl $ forget ! 40 refl $ forget ! 42 refl $ forget ! 44 refl $ forget ! 46 refl $ forget ! 48 refl $
           move ! (48 ∷ 49 ∷ []) $ free1 ! $ move ! (46 ∷ 47 ∷ []) $ free1 ! $ move ! (44 ∷ 45 ∷ []) $ free1 ! $ move ! (42 ∷ 43 ∷ []) $ free1 ! $ move ! (40 ∷ 41 ∷ []) $ free1 ! $ move ! (38 ∷ 39 ∷ []) $ free1 ! $ move ! (36 ∷ 37 ∷ []) $ free1 ! $ move ! (34 ∷ 35 ∷ []) $ free1 ! $ move ! (32 ∷ 33 ∷ []) $ free1 ! $ move ! (30 ∷ 31 ∷ []) $ free1 ! $ move ! (28 ∷ 29 ∷ []) $ free1 ! $ move ! (26 ∷ 27 ∷ []) $ free1 ! $ move ! (24 ∷ 25 ∷ []) $ free1 ! $ move ! (22 ∷ 23 ∷ []) $ free1 ! $ move ! (20 ∷ 21 ∷ []) $ free1 ! $ move ! (18 ∷ 19 ∷ []) $ free1 ! $ move ! (16 ∷ 17 ∷ []) $ free1 ! $ move ! (14 ∷ 15 ∷ []) $ free1 ! $ move ! (12 ∷ 13 ∷ []) $ free1 ! $ move ! (10 ∷ 11 ∷ []) $ free1 ! $ move ! (8 ∷ 9 ∷ []) $ free1 ! $ move ! (6 ∷ 7 ∷ []) $ free1 ! $ free0 ! $
           keep ! (0 ∷ 1 ∷ 2 ∷ 3 ∷ 4 ∷ []) $
-          by ! (exits d t (zs .1 .1 .1 .1 .1 .1 .1 .1 .1 .1 .1 .0) e l (LL.owes Y.the-type Y′.the-laws (reply d) ((refl, gave .0 .1), ((refl, gave .1 .0 .1), tt))))))))))))))))))))))))))))))))))))))))))))))
+          by ! (exits I c 𝓤 H A W (reply d) t (zs .1 .1 .1 .1 .1 .1 .1 .1 .1 .1 .1 .0) e l (LL.owes Y.the-type Y′.the-laws (reply d) ((refl, gave .0 .1), ((refl, gave .1 .0 .1), tt))))))))))))))))))))))))))))))))))))))))
 
-  module _ {M : Type 1} (𝓤 : URA M) (H : Heap 𝓤) (A : Atoms 𝓤) (W : Given 𝓤 H A) (#step : Name) where
-    walks : (C : Calls 𝓤 H) (Λ : Loops 𝓤 H) → FmC 𝓤 H (W .laws) C → Triple 𝓤 (C #step) (Step 𝓤 H A)
-        → Walks 𝓤 H A ended stayed (WpFn 𝓤 H C Λ (function #step)) (clauses 𝓤)
-    walks C Λ fm known =
-        walked 𝓤 H A ended stayed (clauses 𝓤) (WpFn 𝓤 H C Λ (function #step))
-        (λ κs. (
-          ptr-vals,
-          ((λ x. P₁ .val (κs .1 .0) x ∷ []), ((λ x. P₂ .val (κs .1 .0) x ∷ []), ((λ x. P₃ .val (κs .1 .0) x ∷ []), (slice-vals, tt)))),
-        ))
-        (λ κs. (
-          mut-tells (named 0) (κs .0) (row R),
-          (P₁ .tells (κs .1 .0), (P₂ .tells (κs .1 .0), (P₃ .tells (κs .1 .0), (mut-slice-tells (named 1) (κs .1 .0) u8, tt)))),
-        ))
-        (λ κs qs bounds a g are. via 𝓤 _ (fst∗ 𝓤 _ (emp 𝓤)) (walk 𝓤 H A W (κs .1 .0) (κs .0) (qs .1 .0) (qs .0)
-        (a .0 .ptr .0) (a .0 .ptr .1) (a .0 .name) (a .0 .now) (a .1 .0) (a .1 .1 .0) (a .1 .1 .1 .0)
-        (a .1 .1 .1 .1 .0 .ptr .0) (a .1 .1 .1 .1 .0 .ptr .1) (a .1 .1 .1 .1 .0 .name) (a .1 .1 .1 .1 .0 .now) #step C Λ fm known
-        (are .1 .0) (are .1 .1 .0) (are .1 .1 .1 .0) (are .1 .1 .1 .1 .0 .0 .1)))
-
-    all-go : AllGo 𝓤 H A W 2 (ended .signature .params) (ended .kept) stayed
-    all-go = (
-      goes-ref 𝓤 H A W 2 0 tt (plain (λ κs. row R)),
-      (
-        goes-dropped 𝓤 H A W 2 (entry-slot P₁) yes (λ κs x f. refl),
-        (
-          goes-dropped 𝓤 H A W 2 (entry-slot P₂) yes (λ κs x f. refl),
-          (goes-dropped 𝓤 H A W 2 (entry-slot P₃) yes (λ κs x f. refl), (goes-gave-slice 𝓤 H A W 2 1 tt (plain (λ κs. u8)), tt)),
-        ),
-      ),
-    )
-
-    pub meets : (𝓣 : Tables 𝓤 H) → Triple 𝓤 (𝓣 .C #step) (Step 𝓤 H A)
-        → Meets 𝓤 H A (ended .signature) (WpFn 𝓤 H (𝓣 .C) (𝓣 .Λ) (function #step)) (closing 𝓤 H A ended (clauses 𝓤))
-    meets 𝓣 known =
-        walk-meets 𝓤 H A ended stayed W all-go (clauses 𝓤) (WpFn 𝓤 H (𝓣 .C) (𝓣 .Λ) (function #step))
-        (WpFn-mono 𝓤 H (W .laws) 𝓣 (function #step)) (walks (𝓣 .C) (𝓣 .Λ) (fmOf 𝓤 H (W .laws) 𝓣) known)
+  module _ {M : Type 1} (𝓤 : URA M) (H : Heap 𝓤) (A : Atoms 𝓤) (W : Given 𝓤 H A) (#step : Name) (𝓣 : Tables 𝓤 H) where
+    pub meets : Triple 𝓤 (𝓣 .C #step) (Step 𝓤 H A)
+        → Meets 𝓤 H A (ended I .signature) (WpFn 𝓤 H (𝓣 .C) (𝓣 .Λ) (function #step)) (closing 𝓤 H A (ended I) (clauses I 𝓤))
+    meets known = by-walk I 𝓤 H A W (function #step) 𝓣 (λ c. walk 𝓤 H A W c #step (𝓣 .C) (𝓣 .Λ) (fmOf 𝓤 H (W .laws) 𝓣) known)

@@ -14,6 +14,7 @@ use base.Fml.{Lft, Share, GName, ftrue, fat, flft, fobs, fbor}
 use prog.Wp.{Heap, Calls, Loops, WpFn, Tables}
 use ghost.Atoms.{Atoms, sem}
 use contract.Monad.{fact}
+use contract.Lifetimes.{Lfts}
 use types.Kit.{Given, ‵, raw, some, later, _⊛_, ⋆, _$_, _∵_, !, qed, by, move, keep, drop, use1, use2, split, join, pick, rewrite, fsplit, fsplit3}
 use types.Kit.{fjoin, fjoin3, feqL, feqI, suffices, frame, await, done}
 use types.Run.{look, init, forget, stop, hop, fld, from, load, addr, of-opd, and-then, no-more, assigns, land, returns, enter, alloc1}
@@ -35,12 +36,11 @@ use denote.Steps.{only, closes, owned, peeks, heard, nothing}
 use denote.Struct.Struct.{layout, AreAll}
 use denote.Struct.Declared.{Declared, row, shape, fields}
 use denote.Struct.Laws as LL
-use denote.Triple.Entry.{onEntry}
-use denote.Triple.Spec.{Meets, tripleOf}
+use denote.Triple.Entry.{Args}
+use denote.Triple.Spec.{Meets}
 use denote.Triple.Statement.{Contract, Triple}
 use denote.Triple.Call.{calls-at}
-use denote.Triple.Clauses.{Ended, Clauses, ensured, lasts, closing}
-use denote.Triple.Walked.{says, Stays, stay-ref, stay-dropped, gave-slice, walkOf, AllGo, goes-ref, goes-dropped, goes-gave-slice, Walks, ends-at, walked, walk-meets}
+use denote.Triple.Clauses.{Ended, AtExit, ensured, lasts, closing}
 use Rattle.roster.specs.declared.Roster.{Roster}
 use Rattle.roster.proofs.Ballot as B
 use Rattle.roster.proofs.Ballot.Laws as B′
@@ -54,6 +54,7 @@ use Rattle.table.proofs.Table as E
 use Rattle.table.proofs.Table.Laws as E′
 use Rattle.roster.proofs.View as G
 use Rattle.roster.proofs.View.Laws as G′
+use Rattle.leader.specs.Leader.{marksOf}
 use Rattle.leader.specs.declared.State.{State}
 use Rattle.leader.specs.declared.Marks.{Marks}
 use Rattle.leader.proofs.State as T
@@ -67,9 +68,10 @@ use Rattle.speckleewe.proofs.LeaderOutcome as Z
 use Rattle.speckleewe.proofs.LeaderOutcome.Laws as Z′
 use Rattle.speckleewe.proofs.Reply as Y
 use Rattle.speckleewe.proofs.Reply.Laws as Y′
-use Rattle.speckleewe.proofs.Parts.{Part, ty, valOf, lending, returned, byte, bytes as octets, words, fields as cells, Rest, apart, together}
-use Rattle.speckleewe.proofs.Arguments.{Argument, rowAt, struct, number, bytes}
-use Rattle.speckleewe.proofs.Lent.{ref, entry-slot, loaded, opened}
+use Rattle.speckleewe.proofs.Arguments.{Argument, struct, number}
+use Rattle.speckleewe.proofs.Lent.{entry-slot, buffer-slot, keeping, stating, contractOf, asks-nothing, loaded, opened}
+use Rattle.speckleewe.proofs.Entry.{Entry, Call, Walk, args, vals, passed, taken, ended, clauses, exits, meets as by-walk}
+use Rattle.speckleewe.proofs.Parts.{ty, history, table, part-slot, refs, ptrs, lending-two, returned-two, fields as cells, Rest, apart, together}
 
 -- the state and its laws; its parts, with their types; the marks; and the outcome of the step
 abbrev R : Declared
@@ -84,44 +86,17 @@ O = Z.the-type
 abbrev O′ : LL.Laws O
 O′ = Z′.the-laws
 
-abbrev L₁ : Part
-L₁ = byte
-
-abbrev L₂ : Part
-L₂ = words 32
-
-abbrev L₃ : Part
-L₃ = octets 16
-
-abbrev L₄ : Part
-L₄ = words 512
-
-abbrev tableTys : Tys
-tableTys = tcons (ty L₃) (tcons (ty L₄) tnil)
-
-abbrev historyTys : Tys
-historyTys = tcons (ty L₁) (tcons (ty L₂) tnil)
-
 abbrev stateTys : Tys
 stateTys =
     tcons (layout (shape G.the-type)) (tcons (layout (shape B.the-type)) (tcons (tyInt w8) (tcons (layout (shape S.the-type)) (tcons (tyInt w16)
     (tcons (layout (shape E.the-type)) (tcons (layout (shape E.the-type)) tnil))))))
 
--- the machine values of a table, a history and a state
-abbrev tableVals : Table → Vals
-tableVals t = vcons (valOf L₃ (t .counts)) (vcons (valOf L₄ (t .words)) vnil)
-
-abbrev historyVals : History → Vals
-historyVals h = vcons (valOf L₁ (h .count)) (vcons (valOf L₂ (h .words)) vnil)
-
+-- the machine values of a state
 abbrev stateVals : State → Vals
 stateVals s =
     vcons (LL.val G.the-type G′.the-laws (s .view)) (vcons (LL.val B.the-type B′.the-laws (s .ballot)) (vcons (vint w8 (s .classic))
     (vcons (LL.val S.the-type S′.the-laws (s .pending)) (vcons (vint w16 (s .reported)) (vcons (LL.val E.the-type E′.the-laws (s .proven))
     (vcons (LL.val E.the-type E′.the-laws (s .held)) vnil))))))
-
-abbrev marksOf : State → Marks
-marksOf s = record { view = s .view; ballot = s .ballot; classic = s .classic; reported = s .reported }
 
 abbrev reply : LeaderOutcome → Reply
 reply d = record { answer = d .answer; sent = d .sent }
@@ -133,57 +108,25 @@ module _ (P₃ : Argument) (Rel : (κ : Lft) → State → Roster → ℕ → P�
   abbrev P₂ : Argument
   P₂ = number w8
 
-  -- the step's contract
-  abbrev step-ended : Ended
-  step-ended = record {
-    signature = record {
-      lifetimes = 2;
-      outlives = [];
-      params =
-          plain (λ κs. K.the-row) ∷ mutRefTo (0 ∷ []) tt (plain (λ κs. L₁ .type)) ∷ mutRefTo (0 ∷ []) tt (plain (λ κs. L₂ .type)) ∷
-          mutRefTo (0 ∷ []) tt (plain (λ κs. L₃ .type)) ∷ mutRefTo (0 ∷ []) tt (plain (λ κs. L₄ .type)) ∷
-          mutRefTo (0 ∷ []) tt (plain (λ κs. L₃ .type)) ∷ mutRefTo (0 ∷ []) tt (plain (λ κs. L₄ .type)) ∷
-          entry-slot P₁ ∷ entry-slot P₂ ∷ entry-slot P₃ ∷ mutSliceOf (1 ∷ []) tt (plain (λ κs. u8)) ∷ [];
-      result = plain (λ κs. row O);
-    };
-    kept = (yes, (yes, (yes, (yes, (yes, (yes, (yes, (yes, (yes, (yes, (yes, tt)))))))))));
-  }
+  -- the entry, and the step's contract
+  abbrev I : Entry
+  I = record { R = R; P₁ = P₁; P₂ = P₂; P₃ = P₃; Rel = Rel }
 
-  abbrev step-clauses : {M : Type 1} (𝓤 : URA M) → Clauses 𝓤 step-ended
-  step-clauses 𝓤 κs a = record {
-    ghost = Unit {0};
-    requires = λ g. emp 𝓤;
-    ensures =
-        λ g d e. fact 𝓤 (Rel (κs .1 .0)
-        (leaderState (a .0) (now (a .1 .0)) (now (a .1 .1 .0)) (now (a .1 .1 .1 .0)) (now (a .1 .1 .1 .1 .0)) (now (a .1 .1 .1 .1 .1 .0)) (now (a .1 .1 .1 .1 .1 .1 .0)))
-        (a .1 .1 .1 .1 .1 .1 .1 .0) (a .1 .1 .1 .1 .1 .1 .1 .1 .0) (a .1 .1 .1 .1 .1 .1 .1 .1 .1 .0) (now (a .1 .1 .1 .1 .1 .1 .1 .1 .1 .1 .0)) (reply d)
-        (leaderState (d .marks) (now (e .1 .0)) (now (e .1 .1 .0)) (now (e .1 .1 .1 .0)) (now (e .1 .1 .1 .1 .0)) (now (e .1 .1 .1 .1 .1 .0)) (now (e .1 .1 .1 .1 .1 .1 .0)))
-        (now (e .1 .1 .1 .1 .1 .1 .1 .1 .1 .1 .0)));
-  }
+  abbrev step-ended : Ended
+  step-ended =
+      keeping 2 (plain (λ κs. K.the-row) ∷ part-slot (history .P) ∷ part-slot (history .Q) ∷ part-slot (table .P) ∷ part-slot (table .Q) ∷
+      part-slot (table .P) ∷ part-slot (table .Q) ∷ entry-slot P₁ ∷ entry-slot P₂ ∷ entry-slot P₃ ∷ buffer-slot ∷ []) (plain (λ κs. row O))
+
+  abbrev step-says : (κs : Lfts 2) → Args (step-ended .signature) κs → LeaderOutcome → AtExit step-ended κs → Type 0
+  step-says κs a d e =
+      Rel (κs .1 .0)
+      (leaderState (a .0) (now (a .1 .0)) (now (a .1 .1 .0)) (now (a .1 .1 .1 .0)) (now (a .1 .1 .1 .1 .0)) (now (a .1 .1 .1 .1 .1 .0)) (now (a .1 .1 .1 .1 .1 .1 .0)))
+      (a .1 .1 .1 .1 .1 .1 .1 .0) (a .1 .1 .1 .1 .1 .1 .1 .1 .0) (a .1 .1 .1 .1 .1 .1 .1 .1 .1 .0) (now (a .1 .1 .1 .1 .1 .1 .1 .1 .1 .1 .0)) (reply d)
+      (leaderState (d .marks) (now (e .1 .0)) (now (e .1 .1 .0)) (now (e .1 .1 .1 .0)) (now (e .1 .1 .1 .1 .0)) (now (e .1 .1 .1 .1 .1 .0)) (now (e .1 .1 .1 .1 .1 .1 .0)))
+      (now (e .1 .1 .1 .1 .1 .1 .1 .1 .1 .1 .0))
 
   abbrev Step : {M : Type 1} (𝓤 : URA M) (H : Heap 𝓤) (A : Atoms 𝓤) → Contract 𝓤
-  Step 𝓤 H A = tripleOf 𝓤 H A (step-ended .signature) (closing 𝓤 H A step-ended (step-clauses 𝓤))
-
-  -- the entry's contract
-  abbrev ended : Ended
-  ended = record {
-    signature = record {
-      lifetimes = 2;
-      outlives = [];
-      params =
-          mutRefTo (0 ∷ []) tt (plain (λ κs. row R)) ∷ entry-slot P₁ ∷ entry-slot P₂ ∷ entry-slot P₃ ∷
-          mutSliceOf (1 ∷ []) tt (plain (λ κs. u8)) ∷ [];
-      result = plain (λ κs. Y.the-row);
-    };
-    kept = (yes, (yes, (yes, (yes, (yes, tt)))));
-  }
-
-  abbrev clauses : {M : Type 1} (𝓤 : URA M) → Clauses 𝓤 ended
-  clauses 𝓤 κs a = record {
-    ghost = Unit {0};
-    requires = λ g. emp 𝓤;
-    ensures = λ g r e. fact 𝓤 (Rel (κs .1 .0) (now (a .0)) (a .1 .0) (a .1 .1 .0) (a .1 .1 .1 .0) (now (a .1 .1 .1 .1 .0)) r (now (e .0)) (now (e .1 .1 .1 .1 .0)));
-  }
+  Step = contractOf step-ended step-says
 
   -- the entry's body: the marks are copied, the parts and the buffer lent on, the step called, its marks stored, and the answer built
   abbrev mark : ℕ → Rv
@@ -205,8 +148,8 @@ module _ (P₃ : Argument) (Rel : (κ : Lft) → State → Roster → ℕ → P�
         local (P₂ .mir (named 1)) valueLocal ∷ local (P₃ .mir (named 1)) valueLocal ∷ local (sliceTy (tyRef (named 1) mut (tyInt w8))) valueLocal ∷
         local (layout (shape K.the-type)) valueLocal ∷ local (layout (shape O)) valueLocal ∷ local (layout (shape G.the-type)) valueLocal ∷
         local (layout (shape B.the-type)) valueLocal ∷ local (tyInt w8) valueLocal ∷ local (tyInt w16) valueLocal ∷
-        local (tyRef erased mut (ty L₁)) valueLocal ∷ local (tyRef erased mut (ty L₂)) valueLocal ∷ local (tyRef erased mut (ty L₃)) valueLocal ∷
-        local (tyRef erased mut (ty L₄)) valueLocal ∷ local (tyRef erased mut (ty L₃)) valueLocal ∷ local (tyRef erased mut (ty L₄)) valueLocal ∷
+        local (tyRef erased mut (ty (history .P))) valueLocal ∷ local (tyRef erased mut (ty (history .Q))) valueLocal ∷ local (tyRef erased mut (ty (table .P))) valueLocal ∷
+        local (tyRef erased mut (ty (table .Q))) valueLocal ∷ local (tyRef erased mut (ty (table .P))) valueLocal ∷ local (tyRef erased mut (ty (table .Q))) valueLocal ∷
         local (tyRef erased mut (tyInt w8)) valueLocal ∷ local (sliceTy (tyRef erased mut (tyInt w8))) valueLocal ∷ [];
     body =
         seq (assign (place 8 []) (mark 0))
@@ -232,132 +175,32 @@ module _ (P₃ : Argument) (Rel : (κ : Lft) → State → Roster → ℕ → P�
         return))))))))))))))))));
   }
 
-  -- at exit the state is still lent, the buffer is given up, and of the arguments nothing is kept
-  abbrev stayed : Stays (ended .signature .params) (ended .kept)
-  stayed = (
-    stay-ref (0 ∷ []) tt (plain (λ κs. row R)),
-    (
-      stay-dropped (entry-slot P₁) yes,
-      (stay-dropped (entry-slot P₂) yes, (stay-dropped (entry-slot P₃) yes, (gave-slice (1 ∷ []) tt (plain (λ κs. u8)), tt))),
-    ),
-  )
-
-  module _ {M : Type 1} (𝓤 : URA M) (H : Heap 𝓤) (A : Atoms 𝓤) (W : Given 𝓤 H A) (κ κᵣ : Lft) (q qᵣ : Share) (b o : ℕ) (γ : GName) (h : State)
-      (x₁ : P₁ .at κ .Denot) (x₂ : P₂ .at κ .Denot) (x₃ : P₃ .at κ .Denot) (b′ o′ : ℕ) (γ′ : GName) (ys : List ℕ) where
-    abbrev out : RefT (List ℕ)
-    out = ref b′ o′ γ′ ys
-
-    abbrev s : Val
-    s = sliceVal (b′, o′) (length ys)
-
-    abbrev a : RefT State × (P₁ .at κ .Denot × (P₂ .at κ .Denot × (P₃ .at κ .Denot × (RefT (List ℕ) × Unit {0}))))
-    a = (ref b o γ h, (x₁, (x₂, (x₃, (out, tt)))))
-
-    abbrev vals : List Val × (List Val × (List Val × (List Val × (List Val × Unit {0}))))
-    vals = (vptr b o ∷ [], (P₁ .val κ x₁ ∷ [], (P₂ .val κ x₂ ∷ [], (P₃ .val κ x₃ ∷ [], (s ∷ [], tt)))))
-
-    abbrev Post : Val → SProp 𝓤
-    Post = walkOf 𝓤 H A ended stayed (clauses 𝓤) .post (((κᵣ, (κ, tt)), (qᵣ, (q, tt)), tt, a, vals), tt)
-
-    abbrev handed : List RattleType
-    handed = rowAt P₁ (named 1) κ ∷ rowAt P₂ (named 1) κ ∷ rowAt P₃ (named 1) κ ∷ MutSlice (named 1) κ u8 ∷ []
-
-    -- the addresses of the parts
-    abbrev o₁ : ℕ
-    o₁ = o + 16 + 0
-
-    abbrev o₂ : ℕ
-    o₂ = o + 16 + 8
-
-    abbrev o₃ : ℕ
-    o₃ = o + 288 + 0
-
-    abbrev o₄ : ℕ
-    o₄ = o + 288 + 16
-
-    abbrev o₅ : ℕ
-    o₅ = o + 4400 + 0
-
-    abbrev o₆ : ℕ
-    o₆ = o + 4400 + 16
+  module _ {M : Type 1} (𝓤 : URA M) (H : Heap 𝓤) (A : Atoms 𝓤) (W : Given 𝓤 H A) (c : Call I) where
+    open Call c using (κ, κᵣ, q, qᵣ, b, o, h, x₁, x₂, x₃, ys)
 
     -- what the step's triple binds outside: the parts lent for ν, under these names
-    module _ (ν : ℕ) (γ₁ γ₂ γ₃ γ₄ γ₅ γ₆ : GName) where
-      abbrev to-step : Step 𝓤 H A .Ghost
-      to-step = (
-        (
-          (ν ∷ [], (κ, tt)),
-          (fullShare, (q, tt)),
-          tt,
-          (
-            marksOf h,
-            (
-              ref b o₁ γ₁ (h .pending .count),
-              (
-                ref b o₂ γ₂ (h .pending .words),
-                (
-                  ref b o₃ γ₃ (h .proven .counts),
-                  (ref b o₄ γ₄ (h .proven .words), (ref b o₅ γ₅ (h .held .counts), (ref b o₆ γ₆ (h .held .words), a .1))),
-                ),
-              ),
-            ),
-          ),
-          (
-            LL.vals K.the-type K′.the-laws (marksOf h),
-            (
-              vptr b o₁ ∷ [],
-              (
-                vptr b o₂ ∷ [],
-                (
-                  vptr b o₃ ∷ [],
-                  (
-                    vptr b o₄ ∷ [],
-                    (
-                      vptr b o₅ ∷ [],
-                      (vptr b o₆ ∷ [], vals .1),
-                    ),
-                  ),
-                ),
-              ),
-            ),
-          ),
-        ),
+    abbrev to-step : ℕ → GName → GName → GName → GName → GName → GName → Step 𝓤 H A .Ghost
+    to-step ν γ₁ γ₂ γ₃ γ₄ γ₅ γ₆ = (
+      (
+        (ν ∷ [], (κ, tt)),
+        (fullShare, (q, tt)),
         tt,
-      )
-
-      abbrev passed : List RattleType
-      passed =
-          K.the-row ∷ MutRef (named 0) (ν ∷ []) (L₁ .type) ∷ MutRef (named 0) (ν ∷ []) (L₂ .type) ∷ MutRef (named 0) (ν ∷ []) (L₃ .type) ∷
-          MutRef (named 0) (ν ∷ []) (L₄ .type) ∷ MutRef (named 0) (ν ∷ []) (L₃ .type) ∷ MutRef (named 0) (ν ∷ []) (L₄ .type) ∷ handed
-
-      goes : ent 𝓤 (sep 𝓤 (sep 𝓤 (A .lft (ν ∷ []) fullShare) (sep 𝓤 (A .lft κ q) (sem 𝓤 H A ftrue))) (sem 𝓤 H A (owns passed (to-step .0 .3) (to-step .0 .4))))
-          (Step 𝓤 H A .pre to-step)
-      goes =
-          qed W ((‵ (flft (ν ∷ []) fullShare) ⊛ ‵ (flft κ q) ⊛ ‵ ftrue) ∷ ‵ (owns passed (to-step .0 .3) (to-step .0 .4)) ∷ []) ∵ join ! $ frame ! $ done !
-
-    abbrev mach : LeaderOutcome → Val
-    mach d = LL.val Y.the-type Y′.the-laws (reply d)
-
-    exits : (d : LeaderOutcome) (t : State) (zs : List ℕ) → Rel κ h x₁ x₂ x₃ ys (reply d) t zs → length zs ≡ length ys → Is Y.the-row (reply d) (mach d ∷ [])
-        → ent 𝓤 (⋆ 𝓤 H A (‵ (fobs γ (row R .coded .code t)) ∷ ‵ (fbor κᵣ (Borrowed (mem (row R)) b o γ)) ∷ ‵ (flft κᵣ qᵣ) ∷
-        (‵ (flft κ q) ⊛ ‵ ftrue) ∷ ‵ (finally u8 γ′ zs) ∷ [])) (Post (mach d))
-    exits d t zs e l is =
-        qed W (‵ (fobs γ (row R .coded .code t)) ∷ ‵ (fbor κᵣ (Borrowed (mem (row R)) b o γ)) ∷ ‵ (flft κᵣ qᵣ) ∷ (‵ (flft κ q) ⊛ ‵ ftrue) ∷
-        ‵ (finally u8 γ′ zs) ∷ []) ∵
-        suffices ! _ (ends-at 𝓤 H A ended stayed (clauses 𝓤) W (((κᵣ, (κ, tt)), (qᵣ, (q, tt)), tt, a, vals), tt) (mach d) (reply d)
-        (t, (tt, (tt, (tt, (zs, tt))))) (tt, (tt, (tt, (tt, (l, tt)))))) $
-        says ! e $ move ! (2 ∷ 3 ∷ []) $ join ! $ frame ! $
-        feqI ! (List Val) (vptr b o ∷ []) (vptr b o ∷ []) refl $ fjoin3 ! $ nothing ! $ move ! (2 ∷ 0 ∷ []) $ fjoin ! $
-        nothing ! $ fjoin ! $ nothing ! $ fjoin ! $ nothing ! $ fjoin ! $ move ! (1 ∷ 0 ∷ []) $ fjoin ! $
-        owned ! Y.the-row (Is Y.the-row) (LL.makes Y.the-type Y′.the-plain 𝓤 H A) (reply d) _ is $ move ! (1 ∷ 0 ∷ []) $ done !
+        (
+          marksOf h,
+          refs history b (o + 16) γ₁ γ₂ (h .pending .count) (h .pending .words)
+              (refs table b (o + 288) γ₃ γ₄ (h .proven .counts) (h .proven .words)
+              (refs table b (o + 4400) γ₅ γ₆ (h .held .counts) (h .held .words) (args I c .1))),
+        ),
+        (LL.vals K.the-type K′.the-laws (marksOf h), ptrs history b (o + 16) (ptrs table b (o + 288) (ptrs table b (o + 4400) (vals I c .1)))),
+      ),
+      tt,
+    )
 
     module _ (#step : Name) (C : Calls 𝓤 H) (Λ : Loops 𝓤 H) (fm : FmC 𝓤 H (W .laws) C) (known : Triple 𝓤 (C #step) (Step 𝓤 H A)) where
-      walk : Is (P₁ .at κ) x₁ (vals .1 .0) → Is (P₂ .at κ) x₂ (vals .1 .1 .0) → Is (P₃ .at κ) x₃ (vals .1 .1 .1 .0) → Room u8 (length ys)
-          → ent 𝓤 (onEntry 𝓤 H A (ended .signature) (κᵣ, (κ, tt)) (qᵣ, (q, tt)) a vals)
-          (WpFn 𝓤 H C Λ (function #step) (vptr b o ∷ P₁ .val κ x₁ ∷ P₂ .val κ x₂ ∷ P₃ .val κ x₃ ∷ s ∷ []) Post)
+      walk : Walk I 𝓤 H A C Λ (function #step) c
       walk is₁ is₂ is₃ room =
-          qed W ((‵ (flft κᵣ qᵣ) ⊛ ‵ (flft κ q) ⊛ ‵ ftrue) ∷ ‵ (owns (MutRef (named 0) κᵣ (row R) ∷ handed) a vals) ∷ []) ∵
-          enter ! C Λ (function #step) (vptr b o ∷ P₁ .val κ x₁ ∷ P₂ .val κ x₂ ∷ P₃ .val κ x₃ ∷ s ∷ []) _ $
+          qed W ((‵ (flft κᵣ qᵣ) ⊛ ‵ (flft κ q) ⊛ ‵ ftrue) ∷ ‵ (owns (taken I c) (args I c) (vals I c)) ∷ []) ∵
+          enter ! C Λ (function #step) (passed I c) _ $
           alloc1 ! (λ l₀. alloc1 ! (λ l₁. alloc1 ! (λ l₂. alloc1 ! (λ l₃. alloc1 ! (λ l₄. alloc1 ! (λ l₅. alloc1 ! (λ l₆. alloc1 ! (λ l₇. alloc1 ! (λ l₈. alloc1 ! (λ l₉. alloc1 ! (λ l₁₀. alloc1 ! (λ l₁₁. alloc1 ! (λ l₁₂. alloc1 ! (λ l₁₃. alloc1 ! (λ l₁₄. alloc1 ! (λ l₁₅. alloc1 ! (λ l₁₆. alloc1 ! (λ l₁₇. alloc1 ! (λ l₁₈. alloc1 ! (λ l₁₉. alloc0 ! $ params1 ! $
           pass1 ! (init ! 36 refl (tt, tt)) $
           pass1 ! (init ! 34 refl (P₁ .typed 𝓤 H A W (named 1) κ x₁ is₁)) $
@@ -393,36 +236,24 @@ module _ (P₃ : Argument) (Rel : (κ : Lft) → State → Roster → ℕ → P�
           assigns ! (addr ! (from ! (fld ! refl (hop ! (look-in ! 35 (sub ! 0 refl (whole !))) (stop !))))) (from ! (stop !)) (init ! 9 refl (tt, tt)) $
           assigns ! (agg ! (and-then ! (loaded ! 9 refl) (and-then ! (load ! (from ! (fld ! refl (stop !))) (look-in ! 35 (sub ! 1 refl (whole !))))
           (no-more !)))) (from ! (stop !)) (init ! 7 refl (tt, (tt, (record { fits = room .0 }, tt)))) $
-          -- the state is taken apart, from its last field
-          move ! (1 ∷ []) $ drop ! $
+          -- the state is taken apart, and its history and tables are lent for the time of the call
+          move ! (1 ∷ []) $ drop ! $ lft-new ! tt (λ ν. move ! (1 ∷ []) $
           use1 W (cells 𝓤 H A W stateTys 0 b o (stateVals h) ⊛ raw (Rest 𝓤 H A W (R .name) stateTys b o)) (apart 𝓤 H A W (R .name) stateTys b o (stateVals h)) $
           split ! $ split ! $ move ! (1 ∷ []) $ split ! $ move ! (1 ∷ []) $ split ! $ move ! (1 ∷ []) $ split ! $ move ! (1 ∷ []) $ split ! $
           move ! (1 ∷ []) $ split ! $ move ! (1 ∷ []) $ split ! $
-          use1 W (cells 𝓤 H A W tableTys 0 b (o + 4400) (tableVals (h .held)) ⊛ raw (Rest 𝓤 H A W (E.the-type .name) tableTys b (o + 4400)))
-          (apart 𝓤 H A W (E.the-type .name) tableTys b (o + 4400) (tableVals (h .held))) $ split ! $ split ! $ move ! (1 ∷ []) $ split ! $ move ! (5 ∷ []) $
-          use1 W (cells 𝓤 H A W tableTys 0 b (o + 288) (tableVals (h .proven)) ⊛ raw (Rest 𝓤 H A W (E.the-type .name) tableTys b (o + 288)))
-          (apart 𝓤 H A W (E.the-type .name) tableTys b (o + 288) (tableVals (h .proven))) $ split ! $ split ! $ move ! (1 ∷ []) $ split ! $ move ! (10 ∷ []) $
-          use1 W (cells 𝓤 H A W historyTys 0 b (o + 16) (historyVals (h .pending)) ⊛ raw (Rest 𝓤 H A W (S.the-type .name) historyTys b (o + 16)))
-          (apart 𝓤 H A W (S.the-type .name) historyTys b (o + 16) (historyVals (h .pending))) $ split ! $ split ! $ move ! (1 ∷ []) $ split ! $
-          move ! (2 ∷ 0 ∷ 6 ∷ 4 ∷ 10 ∷ 8 ∷ 3 ∷ 7 ∷ 11 ∷ 17 ∷ 16 ∷ 15 ∷ 14 ∷ 13 ∷ []) $
-          -- [the six parts; the rests of pending, proven, held and the state; the four marks; true, four times; the open borrow; obs; auth; the token; the arguments; _19; …]
-          lft-new ! tt (λ ν. move ! (1 ∷ []) $
-          lending ! tt L₁ (named 0) (ν ∷ []) (h .pending .count) (of-pending .0) (λ γ₁. move ! (3 ∷ []) $
-          lending ! tt L₂ (named 0) (ν ∷ []) (h .pending .words) (of-pending .1 .0) (λ γ₂. move ! (5 ∷ []) $
-          lending ! tt L₃ (named 0) (ν ∷ []) (h .proven .counts) (of-proven .0) (λ γ₃. move ! (7 ∷ []) $
-          lending ! tt L₄ (named 0) (ν ∷ []) (h .proven .words) (of-proven .1 .0) (λ γ₄. move ! (9 ∷ []) $
-          lending ! tt L₃ (named 0) (ν ∷ []) (h .held .counts) (of-held .0) (λ γ₅. move ! (11 ∷ []) $
-          lending ! tt L₄ (named 0) (ν ∷ []) (h .held .words) (of-held .1 .0) (λ γ₆.
-          move ! (0 ∷ 29 ∷ []) $ fjoin ! $ move ! (2 ∷ 0 ∷ []) $ fjoin ! $ move ! (3 ∷ 0 ∷ []) $ fjoin ! $ move ! (4 ∷ 0 ∷ []) $ fjoin ! $
-          move ! (5 ∷ 0 ∷ []) $ fjoin ! $ move ! (6 ∷ 0 ∷ []) $ fjoin ! $
+          -- [held; true; proven; reported; pending; classic; ballot; view; the state's rest; ν; the open borrow; obs; auth; the token; the arguments; _19; …]
+          move ! (0 ∷ 14 ∷ []) $ lending-two ! tt table (ν ∷ []) (h .held .counts) (h .held .words) (of-held .0) (of-held .1 .0) (λ γ₅ γ₆.
+          move ! (5 ∷ 0 ∷ []) $ lending-two ! tt table (ν ∷ []) (h .proven .counts) (h .proven .words) (of-proven .0) (of-proven .1 .0) (λ γ₃ γ₄.
+          move ! (9 ∷ 0 ∷ []) $ lending-two ! tt history (ν ∷ []) (h .pending .count) (h .pending .words) (of-pending .0) (of-pending .1 .0) (λ γ₁ γ₂.
+          -- [the references and the arguments; of pending, proven and held the two lenders' rights and the rest; true; reported; classic; ballot; view; the state's rest; ν; …]
           owned ! K.the-row (Is K.the-row) (LL.makes K.the-type K′.the-plain 𝓤 H A) (marksOf h) _ marked $ fjoin ! $
-          move ! (7 ∷ 23 ∷ []) $ join ! $ use2 W (raw (Step 𝓤 H A .pre (to-step ν γ₁ γ₂ γ₃ γ₄ γ₅ γ₆))) (goes ν γ₁ γ₂ γ₃ γ₄ γ₅ γ₆) $
+          move ! (16 ∷ 20 ∷ []) $ join ! $ use2 W (raw (Step 𝓤 H A .pre (to-step ν γ₁ γ₂ γ₃ γ₄ γ₅ γ₆))) (asks-nothing 𝓤 _) $
           calls-at ! fm (Step 𝓤 H A) known (to-step ν γ₁ γ₂ γ₃ γ₄ γ₅ γ₆)
-          (and-then ! (loaded ! 48 refl) (and-then ! (loaded ! 36 refl) (and-then ! (loaded ! 34 refl) (and-then ! (loaded ! 32 refl)
-          (and-then ! (loaded ! 30 refl) (and-then ! (loaded ! 28 refl) (and-then ! (loaded ! 26 refl) (and-then ! (loaded ! 56 refl)
-          (and-then ! (loaded ! 54 refl) (and-then ! (loaded ! 52 refl) (and-then ! (loaded ! 22 refl) (no-more !)))))))))))) (λ w.
+          (and-then ! (loaded ! 45 refl) (and-then ! (loaded ! 33 refl) (and-then ! (loaded ! 31 refl) (and-then ! (loaded ! 29 refl)
+          (and-then ! (loaded ! 27 refl) (and-then ! (loaded ! 25 refl) (and-then ! (loaded ! 23 refl) (and-then ! (loaded ! 53 refl)
+          (and-then ! (loaded ! 51 refl) (and-then ! (loaded ! 49 refl) (and-then ! (loaded ! 19 refl) (no-more !)))))))))))) (λ w.
           use1 W (later (some (λ (d : LeaderOutcome). ((‵ (flft (ν ∷ []) fullShare) ⊛ ‵ (flft κ q) ⊛ ‵ ftrue) ⊛ ‵ (row O .own d (w ∷ []))) ⊛
-          raw (ensured 𝓤 H A step-ended (step-clauses 𝓤) (ν ∷ [], (κ, tt)) (to-step ν γ₁ γ₂ γ₃ γ₄ γ₅ γ₆ .0 .3) tt d)))) (id⊢ 𝓤 _) $ await ! tt $
+          raw (ensured 𝓤 H A step-ended (stating step-ended step-says 𝓤) (ν ∷ [], (κ, tt)) (to-step ν γ₁ γ₂ γ₃ γ₄ γ₅ γ₆ .0 .3) tt d)))) (id⊢ 𝓤 _) $ await ! tt $
           pick ! (λ d. split ! $ move ! (1 ∷ []) $
           use1 W (some (λ (zs : Unit {0} × (ℕ × (List ℕ × (List ℕ × (List ℕ × (List ℕ × (List ℕ × (Unit {0} × (Unit {0} × (Unit {0} × (List ℕ × Unit {0}))))))))))).
           ‵ (lasts step-ended (ν ∷ [], (κ, tt)) (to-step ν γ₁ γ₂ γ₃ γ₄ γ₅ γ₆ .0 .3) zs) ⊛
@@ -439,28 +270,18 @@ module _ (P₃ : Argument) (Rel : (κ : Lft) → State → Roster → ℕ → P�
           move ! (8 ∷ []) $ split ! $ split ! $ move ! (2 ∷ []) $ peeks ! (row O) (Is (row O)) (shows 𝓤 H A (row O)) d (w ∷ []) (λ are.
           let gave : AreAll (fields O) (O .to d) (valss (fields O) (LL.spells (O .parts) O′) (O .to d)) = LL.owed O O′ d _ are in
           let remarked : AreAll (fields K.the-type) (K.the-type .to (d .marks)) _ = LL.owed K.the-type K′.the-laws (d .marks) _ (gave .1 .1 .0) in
-          land ! (from ! (stop !)) (init ! 56 refl (LL.lawful O O′ 𝓤 H A W .typed d _ are .0)) $ drop ! $
-          rewrite ! 55 (λ (u : Val). ‵ (fat fullShare (layout (shape O)) l₇ 0 u)) (ap only (LL.tells O O′ d _ are)) refl $
+          land ! (from ! (stop !)) (init ! 53 refl (LL.lawful O O′ 𝓤 H A W .typed d _ are .0)) $ drop ! $
+          rewrite ! 52 (λ (u : Val). ‵ (fat fullShare (layout (shape O)) l₇ 0 u)) (ap only (LL.tells O O′ d _ are)) refl $
           -- the lifetime is ended, and the parts come back at their last values
-          lft-end ! tt $ move ! (0 ∷ 10 ∷ 4 ∷ []) $
-          returned ! tt L₄ (zs .1 .1 .1 .1 .1 .1 .0) (λ f₆. move ! (1 ∷ 10 ∷ 5 ∷ []) $
-          returned ! tt L₃ (zs .1 .1 .1 .1 .1 .0) (λ f₅. move ! (1 ∷ 10 ∷ 6 ∷ []) $
-          returned ! tt L₄ (zs .1 .1 .1 .1 .0) (λ f₄. move ! (1 ∷ 10 ∷ 7 ∷ []) $
-          returned ! tt L₃ (zs .1 .1 .1 .0) (λ f₃. move ! (1 ∷ 10 ∷ 8 ∷ []) $
-          returned ! tt L₂ (zs .1 .1 .0) (λ f₂. move ! (1 ∷ 10 ∷ 9 ∷ []) $
-          returned ! tt L₁ (zs .1 .0) (λ f₁. move ! (1 ∷ []) $ drop ! $
-          -- [the six parts; the token; the buffer's last list; true; the rests of pending, proven, held and the state; the four marks; true, four times; …]
-          move ! (1 ∷ 17 ∷ []) $ join ! $ move ! (1 ∷ 0 ∷ []) $ join ! $ move ! (0 ∷ 8 ∷ []) $
-          use2 W (‵ (fat fullShare (layout (shape S.the-type)) b (o + 16) (LL.val S.the-type S′.the-laws (t .pending))))
-          (together 𝓤 H A W (S.the-type .name) historyTys b (o + 16) (historyVals (t .pending))) $
-          move ! (2 ∷ 15 ∷ []) $ join ! $ move ! (2 ∷ 0 ∷ []) $ join ! $ move ! (0 ∷ 7 ∷ []) $
-          use2 W (‵ (fat fullShare (layout (shape E.the-type)) b (o + 288) (LL.val E.the-type E′.the-laws (t .proven))))
-          (together 𝓤 H A W (E.the-type .name) tableTys b (o + 288) (tableVals (t .proven))) $
-          move ! (3 ∷ 13 ∷ []) $ join ! $ move ! (3 ∷ 0 ∷ []) $ join ! $ move ! (0 ∷ 6 ∷ []) $
-          use2 W (‵ (fat fullShare (layout (shape E.the-type)) b (o + 4400) (LL.val E.the-type E′.the-laws (t .held))))
-          (together 𝓤 H A W (E.the-type .name) tableTys b (o + 4400) (tableVals (t .held))) $
-          move ! (0 ∷ 11 ∷ []) $ join ! $ move ! (1 ∷ 0 ∷ []) $ join ! $ move ! (9 ∷ 0 ∷ []) $ join ! $ move ! (1 ∷ 0 ∷ []) $ join ! $
-          move ! (7 ∷ 0 ∷ []) $ join ! $ move ! (6 ∷ 0 ∷ []) $ join ! $ move ! (5 ∷ 0 ∷ []) $ join ! $ move ! (0 ∷ 4 ∷ []) $
+          lft-end ! tt $
+          -- [ν is over; the token; the buffer's last list; true; the six last values, from the last; of pending, proven and held the two rights and the rest; …]
+          move ! (0 ∷ 10 ∷ 11 ∷ 12 ∷ 9 ∷ 8 ∷ []) $ returned-two ! tt history (t .pending .count) (t .pending .words) (λ f₁ f₂.
+          move ! (1 ∷ 9 ∷ 10 ∷ 11 ∷ 8 ∷ 7 ∷ []) $ returned-two ! tt table (t .proven .counts) (t .proven .words) (λ f₃ f₄.
+          move ! (1 ∷ 8 ∷ 9 ∷ 10 ∷ 7 ∷ 6 ∷ []) $ returned-two ! tt table (t .held .counts) (t .held .words) (λ f₅ f₆.
+          -- [held; ν is over; proven; pending; the token; the buffer's last list; true; true; reported; classic; ballot; view; the state's rest; …]
+          move ! (1 ∷ []) $ drop ! $
+          move ! (0 ∷ 6 ∷ []) $ join ! $ move ! (1 ∷ 0 ∷ []) $ join ! $ move ! (5 ∷ 0 ∷ []) $ join ! $ move ! (1 ∷ 0 ∷ []) $ join ! $
+          move ! (4 ∷ 0 ∷ []) $ join ! $ move ! (4 ∷ 0 ∷ []) $ join ! $ move ! (4 ∷ 0 ∷ []) $ join ! $ move ! (0 ∷ 4 ∷ []) $
           use2 W (‵ (fat fullShare (layout (shape R)) b o (LL.val R R′ mid))) (together 𝓤 H A W (R .name) stateTys b o (stateVals mid)) $
           -- [the state's cell; the token; the buffer's last list; true; the open borrow; obs; auth; _19; …]
           assigns ! (of-opd ! (load ! (from ! (fld ! refl (fld ! refl (stop !)))) (look-in ! 31 (sub ! 0 refl (sub ! 2 refl (whole !))))))
@@ -498,40 +319,9 @@ module _ (P₃ : Argument) (Rel : (κ : Lft) → State → Roster → ℕ → P�
           returns ! (look ! 44 refl) $ forget ! 6 refl $ forget ! 8 refl $ forget ! 10 refl $ forget ! 12 refl $ forget ! 14 refl $ forget ! 16 refl $ forget ! 18 refl $ forget ! 20 refl $ forget ! 22 refl $ forget ! 24 refl $ forget ! 26 refl $ forget ! 28 refl $ forget ! 30 refl $ forget ! 32 refl $ forget ! 34 refl $ forget ! 36 refl $ forget ! 38 refl $ forget ! 40 refl $ forget ! 42 refl $ forget ! 44 refl $
           move ! (44 ∷ 45 ∷ []) $ free1 ! $ move ! (42 ∷ 43 ∷ []) $ free1 ! $ move ! (40 ∷ 41 ∷ []) $ free1 ! $ move ! (38 ∷ 39 ∷ []) $ free1 ! $ move ! (36 ∷ 37 ∷ []) $ free1 ! $ move ! (34 ∷ 35 ∷ []) $ free1 ! $ move ! (32 ∷ 33 ∷ []) $ free1 ! $ move ! (30 ∷ 31 ∷ []) $ free1 ! $ move ! (28 ∷ 29 ∷ []) $ free1 ! $ move ! (26 ∷ 27 ∷ []) $ free1 ! $ move ! (24 ∷ 25 ∷ []) $ free1 ! $ move ! (22 ∷ 23 ∷ []) $ free1 ! $ move ! (20 ∷ 21 ∷ []) $ free1 ! $ move ! (18 ∷ 19 ∷ []) $ free1 ! $ move ! (16 ∷ 17 ∷ []) $ free1 ! $ move ! (14 ∷ 15 ∷ []) $ free1 ! $ move ! (12 ∷ 13 ∷ []) $ free1 ! $ move ! (10 ∷ 11 ∷ []) $ free1 ! $ move ! (8 ∷ 9 ∷ []) $ free1 ! $ move ! (6 ∷ 7 ∷ []) $ free1 ! $ free0 ! $
           keep ! (0 ∷ 1 ∷ 2 ∷ 3 ∷ 4 ∷ []) $
-          by ! (exits d t (zs .1 .1 .1 .1 .1 .1 .1 .1 .1 .1 .0) e l (LL.owes Y.the-type Y′.the-laws (reply d) ((refl, gave .0 .1), ((refl, gave .1 .0 .1), tt))))))))))))))))))))))))))))))))))))))))))))
+          by ! (exits I c 𝓤 H A W (reply d) t (zs .1 .1 .1 .1 .1 .1 .1 .1 .1 .1 .0) e l (LL.owes Y.the-type Y′.the-laws (reply d) ((refl, gave .0 .1), ((refl, gave .1 .0 .1), tt))))))))))))))))))))))))))))))))))))))
 
-  module _ {M : Type 1} (𝓤 : URA M) (H : Heap 𝓤) (A : Atoms 𝓤) (W : Given 𝓤 H A) (#step : Name) where
-    walks : (C : Calls 𝓤 H) (Λ : Loops 𝓤 H) → FmC 𝓤 H (W .laws) C → Triple 𝓤 (C #step) (Step 𝓤 H A)
-        → Walks 𝓤 H A ended stayed (WpFn 𝓤 H C Λ (function #step)) (clauses 𝓤)
-    walks C Λ fm known =
-        walked 𝓤 H A ended stayed (clauses 𝓤) (WpFn 𝓤 H C Λ (function #step))
-        (λ κs. (
-          ptr-vals,
-          ((λ x. P₁ .val (κs .1 .0) x ∷ []), ((λ x. P₂ .val (κs .1 .0) x ∷ []), ((λ x. P₃ .val (κs .1 .0) x ∷ []), (slice-vals, tt)))),
-        ))
-        (λ κs. (
-          mut-tells (named 0) (κs .0) (row R),
-          (P₁ .tells (κs .1 .0), (P₂ .tells (κs .1 .0), (P₃ .tells (κs .1 .0), (mut-slice-tells (named 1) (κs .1 .0) u8, tt)))),
-        ))
-        (λ κs qs bounds a g are. via 𝓤 _ (fst∗ 𝓤 _ (emp 𝓤)) (walk 𝓤 H A W (κs .1 .0) (κs .0) (qs .1 .0) (qs .0)
-        (a .0 .ptr .0) (a .0 .ptr .1) (a .0 .name) (a .0 .now) (a .1 .0) (a .1 .1 .0) (a .1 .1 .1 .0)
-        (a .1 .1 .1 .1 .0 .ptr .0) (a .1 .1 .1 .1 .0 .ptr .1) (a .1 .1 .1 .1 .0 .name) (a .1 .1 .1 .1 .0 .now) #step C Λ fm known
-        (are .1 .0) (are .1 .1 .0) (are .1 .1 .1 .0) (are .1 .1 .1 .1 .0 .0 .1)))
-
-    all-go : AllGo 𝓤 H A W 2 (ended .signature .params) (ended .kept) stayed
-    all-go = (
-      goes-ref 𝓤 H A W 2 0 tt (plain (λ κs. row R)),
-      (
-        goes-dropped 𝓤 H A W 2 (entry-slot P₁) yes (λ κs x f. refl),
-        (
-          goes-dropped 𝓤 H A W 2 (entry-slot P₂) yes (λ κs x f. refl),
-          (goes-dropped 𝓤 H A W 2 (entry-slot P₃) yes (λ κs x f. refl), (goes-gave-slice 𝓤 H A W 2 1 tt (plain (λ κs. u8)), tt)),
-        ),
-      ),
-    )
-
-    pub meets : (𝓣 : Tables 𝓤 H) → Triple 𝓤 (𝓣 .C #step) (Step 𝓤 H A)
-        → Meets 𝓤 H A (ended .signature) (WpFn 𝓤 H (𝓣 .C) (𝓣 .Λ) (function #step)) (closing 𝓤 H A ended (clauses 𝓤))
-    meets 𝓣 known =
-        walk-meets 𝓤 H A ended stayed W all-go (clauses 𝓤) (WpFn 𝓤 H (𝓣 .C) (𝓣 .Λ) (function #step))
-        (WpFn-mono 𝓤 H (W .laws) 𝓣 (function #step)) (walks (𝓣 .C) (𝓣 .Λ) (fmOf 𝓤 H (W .laws) 𝓣) known)
+  module _ {M : Type 1} (𝓤 : URA M) (H : Heap 𝓤) (A : Atoms 𝓤) (W : Given 𝓤 H A) (#step : Name) (𝓣 : Tables 𝓤 H) where
+    pub meets : Triple 𝓤 (𝓣 .C #step) (Step 𝓤 H A)
+        → Meets 𝓤 H A (ended I .signature) (WpFn 𝓤 H (𝓣 .C) (𝓣 .Λ) (function #step)) (closing 𝓤 H A (ended I) (clauses I 𝓤))
+    meets known = by-walk I 𝓤 H A W (function #step) 𝓣 (λ c. walk 𝓤 H A W c #step (𝓣 .C) (𝓣 .Λ) (fmOf 𝓤 H (W .laws) 𝓣) known)

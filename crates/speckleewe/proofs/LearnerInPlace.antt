@@ -15,6 +15,7 @@ use prog.Memory.{fieldAt as lies-at}
 use prog.Wp.{Heap, Calls, Loops, WpFn, Tables}
 use ghost.Atoms.{Atoms, sem}
 use contract.Monad.{fact}
+use contract.Lifetimes.{Lfts}
 use types.Kit.{Given, ‵, raw, given, some, later, _⊛_, ⋆, _$_, _∵_, !, qed, by, move, keep, drop, use1, use2, use3, split, join, pick, learn, rewrite, fsplit, fsplit3}
 use types.Kit.{fjoin, fjoin3, feqI, suffices, frame, await, done}
 use types.Run.{look, init, forget, stop, hop, fld, from, load, addr, of-opd, and-then, no-more, assigns, land, returns, enter, alloc1}
@@ -23,7 +24,7 @@ use types.SemTy.{Body as Borrowed}
 use types.Tokens.{lft-new, lft-end}
 use sound.WpLaws.{FmC, fmOf, WpFn-mono}
 use denote.RattleType.{RattleType, owns}
-use denote.Memory.{mem, pointee}
+use denote.Memory.{mem, pointee, cellAt}
 use denote.Laws.{Is, shows, valss}
 use denote.Exit.{yes}
 use denote.Ref.{RefT, MutRef, ptr-vals, mut-tells, now}
@@ -32,11 +33,11 @@ use denote.Steps.{only, closes, owned, peeks, heard, nothing}
 use denote.Struct.Struct.{layout, AreAll, Plains}
 use denote.Struct.Declared.{Declared, row, shape, fields}
 use denote.Struct.Laws as LL
-use denote.Triple.Entry.{onEntry}
-use denote.Triple.Spec.{Meets, tripleOf}
+use denote.Triple.Entry.{Args, onEntry}
+use denote.Triple.Spec.{Meets}
 use denote.Triple.Statement.{Contract, Triple}
 use denote.Triple.Call.{calls-at}
-use denote.Triple.Clauses.{Ended, Clauses, ensured, lasts, closing}
+use denote.Triple.Clauses.{Ended, Clauses, AtExit, ensured, lasts, closing}
 use denote.Triple.Walked.{says, Stays, stay-ref, stay-dropped, walkOf, AllGo, goes-ref, goes-dropped, Walks, ends-at, walked, walk-meets}
 use Rattle.roster.proofs.Roster as N
 use Rattle.roster.proofs.Roster.Laws as N′
@@ -51,9 +52,9 @@ use Rattle.speckleewe.specs.Outcomes.{learnerState, learns}
 use Rattle.speckleewe.specs.declared.LearnerReply.{LearnerReply}
 use Rattle.speckleewe.proofs.LearnerReply as Y
 use Rattle.speckleewe.proofs.LearnerReply.Laws as Y′
-use Rattle.speckleewe.proofs.Parts.{Part, ty, valOf, lending, returned, byte, bytes as octets, words, fields as cells, Rest, apart, together}
 use Rattle.speckleewe.proofs.Arguments.{Argument, rowAt, struct, bytes}
-use Rattle.speckleewe.proofs.Lent.{ref, entry-slot, loaded, opened}
+use Rattle.speckleewe.proofs.Lent.{ref, record-slot, entry-slot, keeping, stating, contractOf, asks-nothing, loaded, opened}
+use Rattle.speckleewe.proofs.Parts.{ty, history, table, part-slot, refs, ptrs, lending-two, returned-two, fields as cells, Rest, apart, together}
 
 abbrev P₁ : Argument
 P₁ = struct N.the-type N′.the-laws
@@ -67,77 +68,35 @@ R = T.the-type
 abbrev R′ : LL.Laws R
 R′ = T′.the-laws
 
--- the types of the record's fields, as the machine sees them
-abbrev τE : Tys
-τE = tcons (tyArray (tyInt w8) 16) (tcons (tyArray (tyInt w64) 512) tnil)
+-- the types of the state's fields and their machine values
+abbrev stateTys : Tys
+stateTys = tcons (layout (shape E.the-type)) (tcons (layout (shape S.the-type)) tnil)
 
-abbrev τS : Tys
-τS = tcons (tyInt w8) (tcons (tyArray (tyInt w64) 32) tnil)
-
-abbrev τR : Tys
-τR = tcons (tyStruct [] τE) (tcons (tyStruct [] τS) tnil)
-
--- the parts
-abbrev L₁ : Part
-L₁ = octets 16
-
-abbrev L₂ : Part
-L₂ = words 512
-
-abbrev L₃ : Part
-L₃ = byte
-
-abbrev L₄ : Part
-L₄ = words 32
+abbrev stateVals : State → Vals
+stateVals s = vcons (LL.val E.the-type E′.the-laws (s .entries)) (vcons (LL.val S.the-type S′.the-laws (s .learned)) vnil)
 
 -- the step's contract
-abbrev lent : Part → Lft → RattleType
-lent L κ = MutRef (named 0) κ (L .type)
-
 abbrev step-ended : Ended
-step-ended = record {
-  signature = record {
-    lifetimes = 2;
-    outlives = [];
-    params =
-        mutRefTo (0 ∷ []) tt (plain (λ κs. L₁ .type)) ∷ mutRefTo (0 ∷ []) tt (plain (λ κs. L₂ .type)) ∷
-        mutRefTo (0 ∷ []) tt (plain (λ κs. L₃ .type)) ∷ mutRefTo (0 ∷ []) tt (plain (λ κs. L₄ .type)) ∷
-        entry-slot P₁ ∷ entry-slot P₂ ∷ [];
-    result = plain (λ κs. Y.the-row);
-  };
-  kept = (yes, (yes, (yes, (yes, (yes, (yes, tt))))));
-}
+step-ended =
+    keeping 2 (part-slot (table .P) ∷ part-slot (table .Q) ∷ part-slot (history .P) ∷ part-slot (history .Q) ∷ entry-slot P₁ ∷ entry-slot P₂ ∷ [])
+    (plain (λ κs. Y.the-row))
 
-abbrev step-clauses : {M : Type 1} (𝓤 : URA M) → Clauses 𝓤 step-ended
-step-clauses 𝓤 κs a = record {
-  ghost = Unit {0};
-  requires = λ g. emp 𝓤;
-  ensures = λ g d e. fact 𝓤 (learns (learnerState (now (a .0)) (now (a .1 .0)) (now (a .1 .1 .0)) (now (a .1 .1 .1 .0))) (a .1 .1 .1 .1 .0) (now (a .1 .1 .1 .1 .1 .0)) d
-      (learnerState (now (e .0)) (now (e .1 .0)) (now (e .1 .1 .0)) (now (e .1 .1 .1 .0))));
-}
+abbrev step-says : (κs : Lfts 2) → Args (step-ended .signature) κs → LearnerReply → AtExit step-ended κs → Type 0
+step-says κs a d e =
+    learns (learnerState (now (a .0)) (now (a .1 .0)) (now (a .1 .1 .0)) (now (a .1 .1 .1 .0))) (a .1 .1 .1 .1 .0) (now (a .1 .1 .1 .1 .1 .0)) d
+    (learnerState (now (e .0)) (now (e .1 .0)) (now (e .1 .1 .0)) (now (e .1 .1 .1 .0)))
 
 abbrev Step : {M : Type 1} (𝓤 : URA M) (H : Heap 𝓤) (A : Atoms 𝓤) → Contract 𝓤
-Step 𝓤 H A = tripleOf 𝓤 H A (step-ended .signature) (closing 𝓤 H A step-ended (step-clauses 𝓤))
+Step = contractOf step-ended step-says
 
 -- the entry's contract
 abbrev ended : Ended
-ended = record {
-  signature = record {
-    lifetimes = 2;
-    outlives = [];
-    params = mutRefTo (0 ∷ []) tt (plain (λ κs. row R)) ∷ entry-slot P₁ ∷ entry-slot P₂ ∷ [];
-    result = plain (λ κs. Y.the-row);
-  };
-  kept = (yes, (yes, (yes, tt)));
-}
+ended = keeping 2 (record-slot R ∷ entry-slot P₁ ∷ entry-slot P₂ ∷ []) (plain (λ κs. Y.the-row))
 
 abbrev clauses : {M : Type 1} (𝓤 : URA M) → Clauses 𝓤 ended
-clauses 𝓤 κs a = record {
-  ghost = Unit {0};
-  requires = λ g. emp 𝓤;
-  ensures = λ g r e. fact 𝓤 (learns (now (a .0)) (a .1 .0) (now (a .1 .1 .0)) r (now (e .0)));
-}
+clauses = stating ended (λ κs a r e. learns (now (a .0)) (a .1 .0) (now (a .1 .1 .0)) r (now (e .0)))
 
+-- the entry's body: the parts are lent on and the step called
 abbrev part : ℕ → ℕ → Rv
 part i j = addrOf (place 1 (deref (layout (shape R)) ∷ fieldAt i ∷ fieldAt j ∷ []))
 
@@ -149,8 +108,8 @@ function #step = record {
   locals =
       local (Y′.mir) valueLocal ∷ local (tyRef (named 0) mut (pointee (row R .written))) valueLocal ∷ local (P₁ .mir (named 1)) valueLocal ∷
       local (P₂ .mir (named 1)) valueLocal ∷
-      local (tyRef erased mut (ty L₁)) valueLocal ∷ local (tyRef erased mut (ty L₂)) valueLocal ∷ local (tyRef erased mut (ty L₃)) valueLocal ∷
-      local (tyRef erased mut (ty L₄)) valueLocal ∷ [];
+      local (tyRef erased mut (ty (table .P))) valueLocal ∷ local (tyRef erased mut (ty (table .Q))) valueLocal ∷ local (tyRef erased mut (ty (history .P))) valueLocal ∷
+      local (tyRef erased mut (ty (history .Q))) valueLocal ∷ [];
   body =
       seq (assign (place 4 []) (part 0 0))
       (seq (assign (place 5 []) (part 0 1))
@@ -160,35 +119,20 @@ function #step = record {
       return))));
 }
 
+-- at exit the state is still lent, and of the arguments nothing is kept
 abbrev stayed : Stays (ended .signature .params) (ended .kept)
 stayed = (stay-ref (0 ∷ []) tt (plain (λ κs. row R)), (stay-dropped (entry-slot P₁) yes, (stay-dropped (entry-slot P₂) yes, tt)))
 
 module _ {M : Type 1} (𝓤 : URA M) (H : Heap 𝓤) (A : Atoms 𝓤) (W : Given 𝓤 H A) (κ κᵣ : Lft) (q qᵣ : Share) (b o : ℕ) (γ : GName) (h : State)
     (x₁ : P₁ .at κ .Denot) (x₂ : P₂ .at κ .Denot) where
   abbrev a : RefT State × (P₁ .at κ .Denot × (P₂ .at κ .Denot × Unit {0}))
-  a = (record { ptr = (b, o); name = γ; now = h }, (x₁, (x₂, tt)))
+  a = (ref b o γ h, (x₁, (x₂, tt)))
 
   abbrev vals : List Val × (List Val × (List Val × Unit {0}))
   vals = (vptr b o ∷ [], (P₁ .val κ x₁ ∷ [], (P₂ .val κ x₂ ∷ [], tt)))
 
   abbrev Post : Val → SProp 𝓤
   Post = walkOf 𝓤 H A ended stayed (clauses 𝓤) .post (((κᵣ, (κ, tt)), (qᵣ, (q, tt)), tt, a, vals), tt)
-
-  abbrev handed : Lifetime → List RattleType
-  handed ℓ = rowAt P₁ ℓ κ ∷ rowAt P₂ ℓ κ ∷ []
-
-  -- the addresses of the parts
-  abbrev o₁ : ℕ
-  o₁ = o + 0 + 0
-
-  abbrev o₂ : ℕ
-  o₂ = o + 0 + 16
-
-  abbrev o₃ : ℕ
-  o₃ = o + 4112 + 0
-
-  abbrev o₄ : ℕ
-  o₄ = o + 4112 + 8
 
   -- what the step's triple binds outside: the parts lent for ν, under these names
   abbrev to-step : ℕ → GName → GName → GName → GName → Step 𝓤 H A .Ghost
@@ -197,25 +141,11 @@ module _ {M : Type 1} (𝓤 : URA M) (H : Heap 𝓤) (A : Atoms 𝓤) (W : Given
       (ν ∷ [], (κ, tt)),
       (fullShare, (q, tt)),
       tt,
-      (ref b o₁ γ₁ (h .entries .counts), (ref b o₂ γ₂ (h .entries .words), (ref b o₃ γ₃ (h .learned .count), (ref b o₄ γ₄ (h .learned .words), a .1)))),
-      (vptr b o₁ ∷ [], (vptr b o₂ ∷ [], (vptr b o₃ ∷ [], (vptr b o₄ ∷ [], vals .1)))),
+      refs table b (o + 0) γ₁ γ₂ (h .entries .counts) (h .entries .words) (refs history b (o + 4112) γ₃ γ₄ (h .learned .count) (h .learned .words) (a .1)),
+      ptrs table b (o + 0) (ptrs history b (o + 4112) (vals .1)),
     ),
     tt,
   )
-
-  abbrev lent-parts : ℕ → List RattleType
-  lent-parts ν = lent L₁ (ν ∷ []) ∷ lent L₂ (ν ∷ []) ∷ lent L₃ (ν ∷ []) ∷ lent L₄ (ν ∷ []) ∷ handed (named 1)
-
-  goes : (ν : ℕ) (γ₁ γ₂ γ₃ γ₄ : GName)
-      → ent 𝓤 (sep 𝓤 (sep 𝓤 (A .lft (ν ∷ []) fullShare) (sep 𝓤 (A .lft κ q) (sem 𝓤 H A ftrue)))
-      (sem 𝓤 H A (owns (lent-parts ν) (to-step ν γ₁ γ₂ γ₃ γ₄ .0 .3) (to-step ν γ₁ γ₂ γ₃ γ₄ .0 .4)))) (Step 𝓤 H A .pre (to-step ν γ₁ γ₂ γ₃ γ₄))
-  goes ν γ₁ γ₂ γ₃ γ₄ =
-      qed W ((‵ (flft (ν ∷ []) fullShare) ⊛ ‵ (flft κ q) ⊛ ‵ ftrue) ∷
-      ‵ (owns (lent-parts ν) (to-step ν γ₁ γ₂ γ₃ γ₄ .0 .3) (to-step ν γ₁ γ₂ γ₃ γ₄ .0 .4)) ∷ []) ∵ join ! $ frame ! $ done !
-
-  -- the record of the parts at exit
-  abbrev after : List ℕ → List ℕ → ℕ → List ℕ → State
-  after z₁ z₂ z₃ z₄ = learnerState z₁ z₂ z₃ z₄
 
   exits : (d : LearnerReply) (t : State) → learns h x₁ (now x₂) d t → Is Y.the-row d (LL.vals Y.the-type Y′.the-laws d)
       → ent 𝓤 (⋆ 𝓤 H A (‵ (fobs γ (row R .coded .code t)) ∷ ‵ (fbor κᵣ (Borrowed (mem (row R)) b o γ)) ∷ ‵ (flft κᵣ qᵣ) ∷
@@ -234,7 +164,7 @@ module _ {M : Type 1} (𝓤 : URA M) (H : Heap 𝓤) (A : Atoms 𝓤) (W : Given
         → ent 𝓤 (onEntry 𝓤 H A (ended .signature) (κᵣ, (κ, tt)) (qᵣ, (q, tt)) a vals)
         (WpFn 𝓤 H C Λ (function #step) (vptr b o ∷ P₁ .val κ x₁ ∷ P₂ .val κ x₂ ∷ []) Post)
     walk is₁ is₂ =
-        qed W ((‵ (flft κᵣ qᵣ) ⊛ ‵ (flft κ q) ⊛ ‵ ftrue) ∷ ‵ (owns (MutRef (named 0) κᵣ (row R) ∷ handed (named 1)) a vals) ∷ []) ∵
+        qed W ((‵ (flft κᵣ qᵣ) ⊛ ‵ (flft κ q) ⊛ ‵ ftrue) ∷ ‵ (owns (MutRef (named 0) κᵣ (row R) ∷ rowAt P₁ (named 1) κ ∷ rowAt P₂ (named 1) κ ∷ []) a vals) ∷ []) ∵
         enter ! C Λ (function #step) (vptr b o ∷ P₁ .val κ x₁ ∷ P₂ .val κ x₂ ∷ []) _ $
         alloc1 ! (λ l₀. alloc1 ! (λ l₁. alloc1 ! (λ l₂. alloc1 ! (λ l₃. alloc1 ! (λ l₄. alloc1 ! (λ l₅. alloc1 ! (λ l₆. alloc1 ! (λ l₇. alloc0 ! $ params1 ! $
         pass1 ! (init ! 12 refl (tt, tt)) $ pass1 ! (init ! 10 refl (P₁ .typed 𝓤 H A W (named 1) κ x₁ is₁)) $
@@ -250,56 +180,47 @@ module _ {M : Type 1} (𝓤 : URA M) (H : Heap 𝓤) (A : Atoms 𝓤) (W : Given
         let of : AreAll (fields R) (R .to h) (valss (fields R) (LL.spells (R .parts) R′) (R .to h)) = LL.owed R R′ h _ is in
         let of-entries : AreAll (fields E.the-type) (E.the-type .to (h .entries)) _ = LL.owed E.the-type E′.the-laws (h .entries) _ (of .0) in
         let of-learned : AreAll (fields S.the-type) (S.the-type .to (h .learned)) _ = LL.owed S.the-type S′.the-laws (h .learned) _ (of .1 .0) in
-        move ! (1 ∷ []) $ drop ! $
-        use1 W (cells 𝓤 H A W τR 0 b o (vcons (LL.val E.the-type E′.the-laws (h .entries)) (vcons (LL.val S.the-type S′.the-laws (h .learned)) vnil)) ⊛ raw (Rest 𝓤 H A W [] τR b o)) (apart 𝓤 H A W [] τR b o _) $ split ! $ split ! $
-        use1 W (cells 𝓤 H A W τE 0 b (o + 0) (vcons (valOf L₁ (h .entries .counts)) (vcons (valOf L₂ (h .entries .words)) vnil)) ⊛ raw (Rest 𝓤 H A W [] τE b (o + 0))) (apart 𝓤 H A W [] τE b (o + 0) _) $ split ! $ split ! $ move ! (1 ∷ []) $ split ! $
-        move ! (4 ∷ []) $ split ! $
-        use1 W (cells 𝓤 H A W τS 0 b (o + 4112) (vcons (valOf L₃ (h .learned .count)) (vcons (valOf L₄ (h .learned .words)) vnil)) ⊛ raw (Rest 𝓤 H A W [] τS b (o + 4112))) (apart 𝓤 H A W [] τS b (o + 4112) _) $ split ! $ split ! $ move ! (1 ∷ []) $ split ! $
-        move ! (7 ∷ 5 ∷ 2 ∷ 0 ∷ 8 ∷ 3 ∷ 9 ∷ []) $
-        -- [the four cells; the three rests; true; true; true; the open borrow; obs; auth; the token; the arguments; _7; …]
-        lft-new ! tt (λ ν. move ! (1 ∷ []) $
-        lending ! tt L₁ (named 0) (ν ∷ []) (h .entries .counts) (of-entries .0) (λ γ₁. move ! (3 ∷ []) $
-        lending ! tt L₂ (named 0) (ν ∷ []) (h .entries .words) (of-entries .1 .0) (λ γ₂. move ! (5 ∷ []) $
-        lending ! tt L₃ (named 0) (ν ∷ []) (h .learned .count) (of-learned .0) (λ γ₃. move ! (7 ∷ []) $
-        lending ! tt L₄ (named 0) (ν ∷ []) (h .learned .words) (of-learned .1 .0) (λ γ₄.
-        move ! (0 ∷ 19 ∷ []) $ fjoin ! $ move ! (2 ∷ 0 ∷ []) $ fjoin ! $ move ! (3 ∷ 0 ∷ []) $ fjoin ! $ move ! (4 ∷ 0 ∷ []) $ fjoin ! $
-        move ! (5 ∷ 15 ∷ []) $ join ! $ use2 W (raw (Step 𝓤 H A .pre (to-step ν γ₁ γ₂ γ₃ γ₄))) (goes ν γ₁ γ₂ γ₃ γ₄) $
+        use1 W (‵ (fat fullShare (layout (shape R)) b o (LL.val R R′ h))) (W .laws .raw-at fullShare (layout (shape R)) b o (LL.val R R′ h)) $
+        move ! (1 ∷ []) $ drop ! $ lft-new ! tt (λ ν. move ! (1 ∷ []) $
+        use1 W (cells 𝓤 H A W stateTys 0 b o (stateVals h) ⊛ raw (Rest 𝓤 H A W (R .name) stateTys b o)) (apart 𝓤 H A W (R .name) stateTys b o (stateVals h)) $
+        split ! $ split ! $ move ! (1 ∷ []) $ split ! $
+        -- [learned; true; entries; the state's rest; ν; the open borrow; obs; auth; the token; the arguments; _7; …]
+        move ! (0 ∷ 9 ∷ []) $ lending-two ! tt history (ν ∷ []) (h .learned .count) (h .learned .words) (of-learned .0) (of-learned .1 .0) (λ γ₃ γ₄.
+        move ! (5 ∷ 0 ∷ []) $ lending-two ! tt table (ν ∷ []) (h .entries .counts) (h .entries .words) (of-entries .0) (of-entries .1 .0) (λ γ₁ γ₂.
+        -- [the references and the arguments; of entries and learned the two lenders' rights and the rest; true; the state's rest; ν; …]
+        move ! (9 ∷ 13 ∷ []) $ join ! $ use2 W (raw (Step 𝓤 H A .pre (to-step ν γ₁ γ₂ γ₃ γ₄))) (asks-nothing 𝓤 _) $
         calls-at ! fm (Step 𝓤 H A) known (to-step ν γ₁ γ₂ γ₃ γ₄)
-        (and-then ! (loaded ! 20 refl) (and-then ! (loaded ! 18 refl) (and-then ! (loaded ! 16 refl) (and-then ! (loaded ! 14 refl)
-        (and-then ! (loaded ! 24 refl) (and-then ! (loaded ! 22 refl) (no-more !))))))) (λ w.
+        (and-then ! (loaded ! 18 refl) (and-then ! (loaded ! 16 refl) (and-then ! (loaded ! 14 refl) (and-then ! (loaded ! 12 refl)
+        (and-then ! (loaded ! 22 refl) (and-then ! (loaded ! 20 refl) (no-more !))))))) (λ w.
         use1 W (later (some (λ (d : LearnerReply). ((‵ (flft (ν ∷ []) fullShare) ⊛ ‵ (flft κ q) ⊛ ‵ ftrue) ⊛ ‵ (Y.the-row .own d (w ∷ []))) ⊛
-        raw (ensured 𝓤 H A step-ended (step-clauses 𝓤) (ν ∷ [], (κ, tt)) (to-step ν γ₁ γ₂ γ₃ γ₄ .0 .3) tt d)))) (id⊢ 𝓤 _) $ await ! tt $ pick ! (λ d.
+        raw (ensured 𝓤 H A step-ended (stating step-ended step-says 𝓤) (ν ∷ [], (κ, tt)) (to-step ν γ₁ γ₂ γ₃ γ₄ .0 .3) tt d)))) (id⊢ 𝓤 _) $ await ! tt $ pick ! (λ d.
         split ! $ move ! (1 ∷ []) $ use1 W (some (λ (zs : List ℕ × (List ℕ × (ℕ × (List ℕ × (Unit {0} × (Unit {0} × Unit {0})))))).
         ‵ (lasts step-ended (ν ∷ [], (κ, tt)) (to-step ν γ₁ γ₂ γ₃ γ₄ .0 .3) zs) ⊛
-        raw (fact 𝓤 (learns h x₁ (now x₂) d (after (zs .0) (zs .1 .0) (zs .1 .1 .0) (zs .1 .1 .1 .0)))))) (id⊢ 𝓤 _) $ pick ! (λ zs.
-        split ! $ move ! (1 ∷ []) $ heard ! (learns h x₁ (now x₂) d (after (zs .0) (zs .1 .0) (zs .1 .1 .0) (zs .1 .1 .1 .0))) (λ e.
+        raw (fact 𝓤 (learns h x₁ (now x₂) d (learnerState (zs .0) (zs .1 .0) (zs .1 .1 .0) (zs .1 .1 .1 .0)))))) (id⊢ 𝓤 _) $ pick ! (λ zs.
+        split ! $ move ! (1 ∷ []) $ heard ! (learns h x₁ (now x₂) d (learnerState (zs .0) (zs .1 .0) (zs .1 .1 .0) (zs .1 .1 .1 .0))) (λ e.
         fsplit ! $ move ! (1 ∷ []) $ fsplit ! $ move ! (1 ∷ []) $ fsplit ! $ move ! (1 ∷ []) $ fsplit ! $ move ! (1 ∷ []) $ drop ! $
         -- [the last values, from the fourth part's; the tokens and the answer; the lenders' parts, from the fourth; the rests; true; …]
         move ! (4 ∷ []) $ split ! $ split ! $ move ! (2 ∷ []) $ peeks ! Y.the-row (Is Y.the-row) (shows 𝓤 H A Y.the-row) d (w ∷ []) (λ are.
-        land ! (from ! (stop !)) (init ! 34 refl (LL.lawful Y.the-type Y′.the-laws 𝓤 H A W .typed d _ are .0)) $ drop ! $
-        rewrite ! 33 (λ (u : Val). ‵ (fat fullShare Y′.mir l₀ 0 u)) (ap only (LL.tells Y.the-type Y′.the-laws d _ are)) refl $
+        land ! (from ! (stop !)) (init ! 32 refl (LL.lawful Y.the-type Y′.the-laws 𝓤 H A W .typed d _ are .0)) $ drop ! $
+        rewrite ! 31 (λ (u : Val). ‵ (fat fullShare Y′.mir l₀ 0 u)) (ap only (LL.tells Y.the-type Y′.the-laws d _ are)) refl $
         -- the lifetime is ended, and the parts come back at their last values
-        lft-end ! tt $ move ! (0 ∷ 6 ∷ 2 ∷ []) $
-        returned ! tt L₄ (zs .1 .1 .1 .0) (λ f₄. move ! (1 ∷ 6 ∷ 3 ∷ []) $
-        returned ! tt L₃ (zs .1 .1 .0) (λ f₃. move ! (1 ∷ 6 ∷ 4 ∷ []) $
-        returned ! tt L₂ (zs .1 .0) (λ f₂. move ! (1 ∷ 6 ∷ 5 ∷ []) $
-        returned ! tt L₁ (zs .0) (λ f₁. move ! (1 ∷ []) $ drop ! $
-        let t : State = after (zs .0) (zs .1 .0) (zs .1 .1 .0) (zs .1 .1 .1 .0) in
+        lft-end ! tt $
+        let t : State = learnerState (zs .0) (zs .1 .0) (zs .1 .1 .0) (zs .1 .1 .1 .0) in
+        -- [ν is over; the token; the four last values, from the last; of entries and learned the two rights and the rest; true; the state's rest; …]
+        move ! (0 ∷ 6 ∷ 7 ∷ 8 ∷ 5 ∷ 4 ∷ []) $ returned-two ! tt table (t .entries .counts) (t .entries .words) (λ f₁ f₂.
+        move ! (1 ∷ 5 ∷ 6 ∷ 7 ∷ 4 ∷ 3 ∷ []) $ returned-two ! tt history (t .learned .count) (t .learned .words) (λ f₃ f₄.
         let now-is : Is (row R) t (LL.vals R R′ t) = LL.owes R R′ t (LL.owes E.the-type E′.the-laws (t .entries) (f₁, (f₂, tt)), (LL.owes S.the-type S′.the-laws (t .learned) (f₃, (f₄, tt)), tt)) in
-        -- [the four cells; the token; the rests; true; true; true; the open borrow; …]
-        move ! (1 ∷ 8 ∷ []) $ join ! $ move ! (1 ∷ 0 ∷ []) $ join ! $ move ! (0 ∷ 4 ∷ []) $
-        use2 W (‵ (fat fullShare (tyStruct [] τE) b (o + 0) (LL.val E.the-type E′.the-laws (t .entries)))) (together 𝓤 H A W [] τE b (o + 0) (vcons (valOf L₁ (t .entries .counts)) (vcons (valOf L₂ (t .entries .words)) vnil))) $
-        move ! (2 ∷ 6 ∷ []) $ join ! $ move ! (2 ∷ 0 ∷ []) $ join ! $ move ! (0 ∷ 3 ∷ []) $
-        use2 W (‵ (fat fullShare (tyStruct [] τS) b (o + 4112) (LL.val S.the-type S′.the-laws (t .learned)))) (together 𝓤 H A W [] τS b (o + 4112) (vcons (valOf L₃ (t .learned .count)) (vcons (valOf L₄ (t .learned .words)) vnil))) $
-        move ! (0 ∷ 4 ∷ []) $ join ! $ move ! (1 ∷ 0 ∷ []) $ join ! $ move ! (0 ∷ 2 ∷ []) $
-        use2 W (‵ (fat fullShare (tyStruct [] τR) b o (LL.val R R′ t))) (together 𝓤 H A W [] τR b o (vcons (LL.val E.the-type E′.the-laws (t .entries)) (vcons (LL.val S.the-type S′.the-laws (t .learned)) vnil))) $
+        -- [learned; ν is over; entries; the token; true; the state's rest; the open borrow; …]
+        move ! (1 ∷ []) $ drop ! $ move ! (0 ∷ 3 ∷ []) $ join ! $ move ! (1 ∷ 0 ∷ []) $ join ! $ move ! (0 ∷ 2 ∷ []) $
+        use2 W (‵ (fat fullShare (layout (shape R)) b o (LL.val R R′ t))) (together 𝓤 H A W (R .name) stateTys b o (stateVals t)) $
+        use1 W (‵ (cellAt fullShare (row R .mir) (LL.vals R R′ t) b o)) (W .laws .at-raw fullShare (layout (shape R)) b o (LL.val R R′ t)) $
         owned ! (row R) (Is (row R)) (LL.makes R T′.the-plain 𝓤 H A) t _ now-is $ move ! (1 ∷ 0 ∷ 3 ∷ 4 ∷ 5 ∷ []) $
         closes ! tt (row R) t (LL.vals R R′ t) b o $
         returns ! (look ! 18 refl) $ forget ! 4 refl $ forget ! 6 refl $ forget ! 8 refl $ forget ! 10 refl $ forget ! 12 refl $ forget ! 14 refl $
         forget ! 16 refl $ forget ! 18 refl $
         move ! (18 ∷ 19 ∷ []) $ free1 ! $ move ! (16 ∷ 17 ∷ []) $ free1 ! $ move ! (14 ∷ 15 ∷ []) $ free1 ! $ move ! (12 ∷ 13 ∷ []) $ free1 ! $
         move ! (10 ∷ 11 ∷ []) $ free1 ! $ move ! (8 ∷ 9 ∷ []) $ free1 ! $ move ! (6 ∷ 7 ∷ []) $ free1 ! $ move ! (4 ∷ 5 ∷ []) $ free1 ! $ free0 ! $
-        by ! (exits d t e (subst (Is Y.the-row d) (LL.tells Y.the-type Y′.the-laws d _ are) are)))))))))))))))))))))))))
+        by ! (exits d t e (subst (Is Y.the-row d) (LL.tells Y.the-type Y′.the-laws d _ are) are)))))))))))))))))))))
 
 module _ {M : Type 1} (𝓤 : URA M) (H : Heap 𝓤) (A : Atoms 𝓤) (W : Given 𝓤 H A) (#step : Name) where
   walks : (C : Calls 𝓤 H) (Λ : Loops 𝓤 H) → FmC 𝓤 H (W .laws) C → Triple 𝓤 (C #step) (Step 𝓤 H A)

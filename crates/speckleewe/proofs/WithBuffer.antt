@@ -44,8 +44,8 @@ use Rattle.speckleewe.specs.declared.Reply.{Reply}
 use Rattle.speckleewe.proofs.Reply as Y
 use Rattle.speckleewe.proofs.Reply.Laws as Y′
 use Rattle.speckleewe.proofs.Arguments.{Argument}
-use Rattle.speckleewe.proofs.Lent.{parts, outcomeOf, partLaws, by-value, step-slot, keeping, stating, contractOf, loaded, opened}
-use Rattle.speckleewe.proofs.Entry.{Entry, Call, Walk, args, vals, passed, handed, taken, ended, clauses, exits, meets as by-walk}
+use Rattle.speckleewe.proofs.Lent.{parts, outcomeOf, partLaws, by-value, step-slot, keeping, stating, contractOf, asks-nothing, loaded, opened}
+use Rattle.speckleewe.proofs.Entry.{Entry, Call, Walk, args, vals, passed, taken, ended, clauses, exits, meets as by-walk}
 
 -- the lent record and its laws, and the outcome's name, type and values
 module _ (R : Declared) (R′ : LL.Laws R) (low : LL.Lowered R) (only-facts : Plains (fields R)) (ν : Sym) (D : Type 0)
@@ -104,16 +104,9 @@ module _ (R : Declared) (R′ : LL.Laws R) (low : LL.Lowered R) (only-facts : Pl
     module _ {M : Type 1} (𝓤 : URA M) (H : Heap 𝓤) (A : Atoms 𝓤) (W : Given 𝓤 H A) (c : Call I) where
       open Call c using (κ, κᵣ, q, qᵣ, b, o, γ, h, x₁, x₂, x₃, ys)
 
-      -- what the step's triple binds outside, and that the entry has what it asks
+      -- what the step's triple binds outside
       abbrev to-step : Step 𝓤 H A .Ghost
       to-step = (((κ, tt), (q, tt), tt, (h, args I c .1), (LL.vals R R′ h, vals I c .1)), tt)
-
-      goes : Is (row R) h (LL.vals R R′ h)
-          → ent 𝓤 (sep 𝓤 (sep 𝓤 (A .lft κ q) (sem 𝓤 H A ftrue)) (sem 𝓤 H A (owns (handed I c) (args I c .1) (vals I c .1)))) (Step 𝓤 H A .pre to-step)
-      goes is =
-          qed W ((‵ (flft κ q) ⊛ ‵ ftrue) ∷ ‵ (owns (handed I c) (args I c .1) (vals I c .1)) ∷ []) ∵
-          owned ! (row R) (Is (row R)) (LL.makes R only-facts 𝓤 H A) h _ is $ move ! (0 ∷ 2 ∷ []) $ fjoin ! $ move ! (1 ∷ 0 ∷ []) $ join ! $ frame ! $
-          done !
 
       module _ (#step : Name) (C : Calls 𝓤 H) (Λ : Loops 𝓤 H) (fm : FmC 𝓤 H (W .laws) C) (known : Triple 𝓤 (C #step) (Step 𝓤 H A)) where
         walk : Walk I 𝓤 H A C Λ (function #step) c
@@ -137,7 +130,8 @@ module _ (R : Declared) (R′ : LL.Laws R) (low : LL.Lowered R) (only-facts : Pl
             assigns ! (agg ! (and-then ! (loaded ! 9 refl) (and-then ! (load ! (from ! (fld ! refl (stop !)))
             (look-in ! 15 (sub ! 1 refl (whole !)))) (no-more !))))
             (from ! (stop !)) (init ! 7 refl (tt, (tt, (record { fits = room .0 }, tt)))) $
-            move ! (5 ∷ 6 ∷ []) $ use2 W (raw (Step 𝓤 H A .pre to-step)) (goes is) $ calls-at ! fm (Step 𝓤 H A) known to-step
+            move ! (6 ∷ []) $ owned ! (row R) (Is (row R)) (LL.makes R only-facts 𝓤 H A) h _ is $ fjoin ! $ move ! (6 ∷ 0 ∷ []) $
+            use2 W (raw (Step 𝓤 H A .pre to-step)) (asks-nothing 𝓤 _) $ calls-at ! fm (Step 𝓤 H A) known to-step
             (and-then ! (loaded ! 12 refl) (and-then ! (loaded ! 20 refl) (and-then ! (loaded ! 18 refl)
             (and-then ! (loaded ! 16 refl) (and-then ! (loaded ! 6 refl) (no-more !)))))) (λ w.
             use1 W (later (some (λ (d : D). ((‵ (flft κ q) ⊛ ‵ ftrue) ⊛ ‵ (row O .own d (w ∷ []))) ⊛
