@@ -40,8 +40,6 @@ use denote.Triple.Clauses.{Ended, AtExit, ensured, lasts, closing}
 use Rattle.roster.specs.declared.Roster.{Roster}
 use Rattle.roster.proofs.Ballot as B
 use Rattle.roster.proofs.Ballot.Laws as B′
-use Rattle.roster.proofs.Roster as N
-use Rattle.roster.proofs.Roster.Laws as N′
 use Rattle.history.proofs.History as S
 use Rattle.history.proofs.History.Laws as S′
 use Rattle.table.proofs.Table as E
@@ -62,7 +60,7 @@ use Rattle.speckleewe.proofs.LeaderOutcome as Z
 use Rattle.speckleewe.proofs.LeaderOutcome.Laws as Z′
 use Rattle.speckleewe.proofs.Reply as Y
 use Rattle.speckleewe.proofs.Reply.Laws as Y′
-use Rattle.speckleewe.proofs.Arguments.{Argument, struct, number}
+use Rattle.speckleewe.proofs.Arguments.{Argument, roster, own}
 use Rattle.speckleewe.proofs.Lent.{entry-slot, buffer-slot, keeping, stating, contractOf, asks-nothing, loaded, opened}
 use Rattle.speckleewe.proofs.Entry.{Entry, Call, Walk, args, vals, passed, taken, ended, clauses, exits, meets as by-walk}
 use Rattle.speckleewe.proofs.Parts.{ty, history, table, part-slot, refs, ptrs, lending-two, returned-two, fields as cells, Rest, apart, together}
@@ -96,20 +94,14 @@ abbrev reply : LeaderOutcome → Reply
 reply d = record { answer = d .answer; sent = d .sent }
 
 module _ (P₃ : Argument) (Rel : (κ : Lft) → State → Roster → ℕ → P₃ .at κ .Denot → List ℕ → Reply → State → List ℕ → Type 0) where
-  abbrev P₁ : Argument
-  P₁ = struct N.the-type N′.the-laws
-
-  abbrev P₂ : Argument
-  P₂ = number w8
-
   -- the entry, and the step's contract
   abbrev I : Entry
-  I = record { R = R; P₁ = P₁; P₂ = P₂; P₃ = P₃; Rel = Rel }
+  I = record { R = R; P₁ = roster; P₂ = own; P₃ = P₃; Rel = Rel }
 
   abbrev step-ended : Ended
   step-ended =
       keeping 2 (plain (λ κs. K.the-row) ∷ part-slot (history .P) ∷ part-slot (history .Q) ∷ part-slot (table .P) ∷ part-slot (table .Q) ∷
-      part-slot (table .P) ∷ part-slot (table .Q) ∷ entry-slot P₁ ∷ entry-slot P₂ ∷ entry-slot P₃ ∷ buffer-slot ∷ []) (plain (λ κs. row O))
+      part-slot (table .P) ∷ part-slot (table .Q) ∷ entry-slot roster ∷ entry-slot own ∷ entry-slot P₃ ∷ buffer-slot ∷ []) (plain (λ κs. row O))
 
   abbrev step-says : (κs : Lfts 2) → Args (step-ended .signature) κs → LeaderOutcome → AtExit step-ended κs → Type 0
   step-says κs a d e =
@@ -138,8 +130,8 @@ module _ (P₃ : Argument) (Rel : (κ : Lft) → State → Roster → ℕ → P�
     outlives = [];
     params = 5;
     locals =
-        local Y′.mir valueLocal ∷ local (tyRef (named 0) mut (pointee (row R .written))) valueLocal ∷ local (P₁ .mir (named 1)) valueLocal ∷
-        local (P₂ .mir (named 1)) valueLocal ∷ local (P₃ .mir (named 1)) valueLocal ∷ local (sliceTy (tyRef (named 1) mut (tyInt w8))) valueLocal ∷
+        local Y′.mir valueLocal ∷ local (tyRef (named 0) mut (pointee (row R .written))) valueLocal ∷ local (roster .mir (named 1)) valueLocal ∷
+        local (own .mir (named 1)) valueLocal ∷ local (P₃ .mir (named 1)) valueLocal ∷ local (sliceTy (tyRef (named 1) mut (tyInt w8))) valueLocal ∷
         local (layout (shape K.the-type)) valueLocal ∷ local (layout (shape O)) valueLocal ∷ local (layout (shape G.the-type)) valueLocal ∷
         local (layout (shape B.the-type)) valueLocal ∷ local (tyInt w8) valueLocal ∷ local (tyInt w16) valueLocal ∷
         local (tyRef erased mut (ty (history .P))) valueLocal ∷ local (tyRef erased mut (ty (history .Q))) valueLocal ∷ local (tyRef erased mut (ty (table .P))) valueLocal ∷
@@ -197,8 +189,8 @@ module _ (P₃ : Argument) (Rel : (κ : Lft) → State → Roster → ℕ → P�
           enter ! C Λ (function #step) (passed I c) _ $
           alloc1 ! (λ l₀. alloc1 ! (λ l₁. alloc1 ! (λ l₂. alloc1 ! (λ l₃. alloc1 ! (λ l₄. alloc1 ! (λ l₅. alloc1 ! (λ l₆. alloc1 ! (λ l₇. alloc1 ! (λ l₈. alloc1 ! (λ l₉. alloc1 ! (λ l₁₀. alloc1 ! (λ l₁₁. alloc1 ! (λ l₁₂. alloc1 ! (λ l₁₃. alloc1 ! (λ l₁₄. alloc1 ! (λ l₁₅. alloc1 ! (λ l₁₆. alloc1 ! (λ l₁₇. alloc1 ! (λ l₁₈. alloc1 ! (λ l₁₉. alloc0 ! $ params1 ! $
           pass1 ! (init ! 36 refl (tt, tt)) $
-          pass1 ! (init ! 34 refl (P₁ .typed 𝓤 H A W (named 1) κ x₁ is₁)) $
-          pass1 ! (init ! 32 refl (P₂ .typed 𝓤 H A W (named 1) κ x₂ is₂)) $
+          pass1 ! (init ! 34 refl (roster .typed 𝓤 H A W (named 1) κ x₁ is₁)) $
+          pass1 ! (init ! 32 refl (own .typed 𝓤 H A W (named 1) κ x₂ is₂)) $
           pass1 ! (init ! 30 refl (P₃ .typed 𝓤 H A W (named 1) κ x₃ is₃)) $
           pass1 ! (init ! 28 refl (tt, (tt, (record { fits = room .0 }, tt)))) $ pass0 ! $
           move ! (41 ∷ []) $ fsplit ! $ fsplit3 ! $ drop ! $ move ! (43 ∷ []) $ split ! $ move ! (2 ∷ 3 ∷ 0 ∷ 1 ∷ []) $

@@ -37,8 +37,6 @@ use denote.Triple.Statement.{Contract, Triple}
 use denote.Triple.Call.{calls-at}
 use denote.Triple.Clauses.{Ended, Clauses, AtExit, ensured, lasts, closing}
 use denote.Triple.Walked.{says, Stays, stay-ref, stay-dropped, walkOf, AllGo, goes-ref, goes-dropped, Walks, ends-at, walked, walk-meets}
-use Rattle.roster.proofs.Roster as N
-use Rattle.roster.proofs.Roster.Laws as N′
 use Rattle.history.proofs.History as S
 use Rattle.history.proofs.History.Laws as S′
 use Rattle.table.proofs.Table as E
@@ -50,15 +48,9 @@ use Rattle.speckleewe.specs.Outcomes.{learnerState, learns}
 use Rattle.speckleewe.specs.declared.LearnerReply.{LearnerReply}
 use Rattle.speckleewe.proofs.LearnerReply as Y
 use Rattle.speckleewe.proofs.LearnerReply.Laws as Y′
-use Rattle.speckleewe.proofs.Arguments.{Argument, rowAt, struct, bytes}
+use Rattle.speckleewe.proofs.Arguments.{rowAt, roster, bytes}
 use Rattle.speckleewe.proofs.Lent.{ref, record-slot, entry-slot, keeping, stating, contractOf, asks-nothing, loaded, opened}
 use Rattle.speckleewe.proofs.Parts.{ty, history, table, part-slot, refs, ptrs, lending-two, returned-two, fields as cells, Rest, apart, together}
-
-abbrev P₁ : Argument
-P₁ = struct N.the-type N′.the-laws
-
-abbrev P₂ : Argument
-P₂ = bytes
 
 abbrev R : Declared
 R = T.the-type
@@ -76,7 +68,7 @@ stateVals s = vcons (LL.val E.the-type E′.the-laws (s .entries)) (vcons (LL.va
 -- the step's contract
 abbrev step-ended : Ended
 step-ended =
-    keeping 2 (part-slot (table .P) ∷ part-slot (table .Q) ∷ part-slot (history .P) ∷ part-slot (history .Q) ∷ entry-slot P₁ ∷ entry-slot P₂ ∷ [])
+    keeping 2 (part-slot (table .P) ∷ part-slot (table .Q) ∷ part-slot (history .P) ∷ part-slot (history .Q) ∷ entry-slot roster ∷ entry-slot bytes ∷ [])
     (plain (λ κs. Y.the-row))
 
 abbrev step-says : (κs : Lfts 2) → Args (step-ended .signature) κs → LearnerReply → AtExit step-ended κs → Type 0
@@ -89,7 +81,7 @@ Step = contractOf step-ended step-says
 
 -- the entry's contract
 abbrev ended : Ended
-ended = keeping 2 (record-slot R ∷ entry-slot P₁ ∷ entry-slot P₂ ∷ []) (plain (λ κs. Y.the-row))
+ended = keeping 2 (record-slot R ∷ entry-slot roster ∷ entry-slot bytes ∷ []) (plain (λ κs. Y.the-row))
 
 abbrev clauses : {M : Type 1} (𝓤 : URA M) → Clauses 𝓤 ended
 clauses = stating ended (λ κs a r e. learns (now (a .0)) (a .1 .0) (now (a .1 .1 .0)) r (now (e .0)))
@@ -104,8 +96,8 @@ function #step = record {
   outlives = [];
   params = 3;
   locals =
-      local (Y′.mir) valueLocal ∷ local (tyRef (named 0) mut (pointee (row R .written))) valueLocal ∷ local (P₁ .mir (named 1)) valueLocal ∷
-      local (P₂ .mir (named 1)) valueLocal ∷
+      local (Y′.mir) valueLocal ∷ local (tyRef (named 0) mut (pointee (row R .written))) valueLocal ∷ local (roster .mir (named 1)) valueLocal ∷
+      local (bytes .mir (named 1)) valueLocal ∷
       local (tyRef erased mut (ty (table .P))) valueLocal ∷ local (tyRef erased mut (ty (table .Q))) valueLocal ∷ local (tyRef erased mut (ty (history .P))) valueLocal ∷
       local (tyRef erased mut (ty (history .Q))) valueLocal ∷ [];
   body =
@@ -119,15 +111,15 @@ function #step = record {
 
 -- at exit the state is still lent, and of the arguments nothing is kept
 abbrev stayed : Stays (ended .signature .params) (ended .kept)
-stayed = (stay-ref (0 ∷ []) tt (plain (λ κs. row R)), (stay-dropped (entry-slot P₁) yes, (stay-dropped (entry-slot P₂) yes, tt)))
+stayed = (stay-ref (0 ∷ []) tt (plain (λ κs. row R)), (stay-dropped (entry-slot roster) yes, (stay-dropped (entry-slot bytes) yes, tt)))
 
 module _ {M : Type 1} (𝓤 : URA M) (H : Heap 𝓤) (A : Atoms 𝓤) (W : Given 𝓤 H A) (κ κᵣ : Lft) (q qᵣ : Share) (b o : ℕ) (γ : GName) (h : State)
-    (x₁ : P₁ .at κ .Denot) (x₂ : P₂ .at κ .Denot) where
-  abbrev a : RefT State × (P₁ .at κ .Denot × (P₂ .at κ .Denot × Unit {0}))
+    (x₁ : roster .at κ .Denot) (x₂ : bytes .at κ .Denot) where
+  abbrev a : RefT State × (roster .at κ .Denot × (bytes .at κ .Denot × Unit {0}))
   a = (ref b o γ h, (x₁, (x₂, tt)))
 
   abbrev vals : List Val × (List Val × (List Val × Unit {0}))
-  vals = (vptr b o ∷ [], (P₁ .val κ x₁ ∷ [], (P₂ .val κ x₂ ∷ [], tt)))
+  vals = (vptr b o ∷ [], (roster .val κ x₁ ∷ [], (bytes .val κ x₂ ∷ [], tt)))
 
   abbrev Post : Val → SProp 𝓤
   Post = walkOf 𝓤 H A ended stayed (clauses 𝓤) .post (((κᵣ, (κ, tt)), (qᵣ, (q, tt)), tt, a, vals), tt)
@@ -158,15 +150,15 @@ module _ {M : Type 1} (𝓤 : URA M) (H : Heap 𝓤) (A : Atoms 𝓤) (W : Given
       owned ! Y.the-row (Is Y.the-row) (LL.makes Y.the-type Y′.the-plain 𝓤 H A) d _ is $ move ! (1 ∷ 0 ∷ []) $ done !
 
   module _ (#step : Name) (C : Calls 𝓤 H) (Λ : Loops 𝓤 H) (fm : FmC 𝓤 H (W .laws) C) (known : Triple 𝓤 (C #step) (Step 𝓤 H A)) where
-    walk : Is (P₁ .at κ) x₁ (vals .1 .0) → Is (P₂ .at κ) x₂ (vals .1 .1 .0)
+    walk : Is (roster .at κ) x₁ (vals .1 .0) → Is (bytes .at κ) x₂ (vals .1 .1 .0)
         → ent 𝓤 (onEntry 𝓤 H A (ended .signature) (κᵣ, (κ, tt)) (qᵣ, (q, tt)) a vals)
-        (WpFn 𝓤 H C Λ (function #step) (vptr b o ∷ P₁ .val κ x₁ ∷ P₂ .val κ x₂ ∷ []) Post)
+        (WpFn 𝓤 H C Λ (function #step) (vptr b o ∷ roster .val κ x₁ ∷ bytes .val κ x₂ ∷ []) Post)
     walk is₁ is₂ =
-        qed W ((‵ (flft κᵣ qᵣ) ⊛ ‵ (flft κ q) ⊛ ‵ ftrue) ∷ ‵ (owns (MutRef (named 0) κᵣ (row R) ∷ rowAt P₁ (named 1) κ ∷ rowAt P₂ (named 1) κ ∷ []) a vals) ∷ []) ∵
-        enter ! C Λ (function #step) (vptr b o ∷ P₁ .val κ x₁ ∷ P₂ .val κ x₂ ∷ []) _ $
+        qed W ((‵ (flft κᵣ qᵣ) ⊛ ‵ (flft κ q) ⊛ ‵ ftrue) ∷ ‵ (owns (MutRef (named 0) κᵣ (row R) ∷ rowAt roster (named 1) κ ∷ rowAt bytes (named 1) κ ∷ []) a vals) ∷ []) ∵
+        enter ! C Λ (function #step) (vptr b o ∷ roster .val κ x₁ ∷ bytes .val κ x₂ ∷ []) _ $
         alloc1 ! (λ l₀. alloc1 ! (λ l₁. alloc1 ! (λ l₂. alloc1 ! (λ l₃. alloc1 ! (λ l₄. alloc1 ! (λ l₅. alloc1 ! (λ l₆. alloc1 ! (λ l₇. alloc0 ! $ params1 ! $
-        pass1 ! (init ! 12 refl (tt, tt)) $ pass1 ! (init ! 10 refl (P₁ .typed 𝓤 H A W (named 1) κ x₁ is₁)) $
-        pass1 ! (init ! 8 refl (P₂ .typed 𝓤 H A W (named 1) κ x₂ is₂)) $ pass0 ! $
+        pass1 ! (init ! 12 refl (tt, tt)) $ pass1 ! (init ! 10 refl (roster .typed 𝓤 H A W (named 1) κ x₁ is₁)) $
+        pass1 ! (init ! 8 refl (bytes .typed 𝓤 H A W (named 1) κ x₂ is₂)) $ pass0 ! $
         move ! (17 ∷ []) $ fsplit ! $ fsplit3 ! $ drop ! $ move ! (19 ∷ []) $ split ! $ move ! (2 ∷ 3 ∷ 0 ∷ 1 ∷ []) $
         opened ! tt R R′ h b o (λ is.
         -- [the record's cell; what it owns; the open borrow; obs; auth; the token; the arguments; _7; …; _1; …; room for _0; …]
@@ -224,8 +216,8 @@ module _ {M : Type 1} (𝓤 : URA M) (H : Heap 𝓤) (A : Atoms 𝓤) (W : Given
   walks : (C : Calls 𝓤 H) (Λ : Loops 𝓤 H) → FmC 𝓤 H (W .laws) C → Triple 𝓤 (C #step) (Step 𝓤 H A)
       → Walks 𝓤 H A ended stayed (WpFn 𝓤 H C Λ (function #step)) (clauses 𝓤)
   walks C Λ fm known = walked 𝓤 H A ended stayed (clauses 𝓤) (WpFn 𝓤 H C Λ (function #step))
-      (λ κs. (ptr-vals, ((λ x. P₁ .val (κs .1 .0) x ∷ []), ((λ x. P₂ .val (κs .1 .0) x ∷ []), tt))))
-      (λ κs. (mut-tells (named 0) (κs .0) (row R), (P₁ .tells (κs .1 .0), (P₂ .tells (κs .1 .0), tt))))
+      (λ κs. (ptr-vals, ((λ x. roster .val (κs .1 .0) x ∷ []), ((λ x. bytes .val (κs .1 .0) x ∷ []), tt))))
+      (λ κs. (mut-tells (named 0) (κs .0) (row R), (roster .tells (κs .1 .0), (bytes .tells (κs .1 .0), tt))))
       (λ κs qs bounds a g are. via 𝓤 _ (fst∗ 𝓤 _ (emp 𝓤)) (walk 𝓤 H A W (κs .1 .0) (κs .0) (qs .1 .0) (qs .0) (a .0 .ptr .0) (a .0 .ptr .1)
       (a .0 .name) (a .0 .now) (a .1 .0) (a .1 .1 .0) #step C Λ fm known (are .1 .0) (are .1 .1 .0)))
 
@@ -233,8 +225,8 @@ module _ {M : Type 1} (𝓤 : URA M) (H : Heap 𝓤) (A : Atoms 𝓤) (W : Given
   all-go = (
     goes-ref 𝓤 H A W 2 0 tt (plain (λ κs. row R)),
     (
-      goes-dropped 𝓤 H A W 2 (entry-slot P₁) yes (λ κs x f. refl),
-      (goes-dropped 𝓤 H A W 2 (entry-slot P₂) yes (λ κs x f. refl), tt),
+      goes-dropped 𝓤 H A W 2 (entry-slot roster) yes (λ κs x f. refl),
+      (goes-dropped 𝓤 H A W 2 (entry-slot bytes) yes (λ κs x f. refl), tt),
     ),
   )
 

@@ -1,12 +1,9 @@
 -- `speckleewe::speckleewe_suspicion` meets its contract: the walk of a lent record, over the step by value.
 -- Assumes nothing.
 use mathlib.Core.Path.{refl}
-use mir.Syntax.{w8}
 use contract.Running.{givenOf, tables, tablesOf}
 use denote.Triple.Spec.{tripleOf}
 use denote.Triple.Table.{entered, cited}
-use Rattle.roster.proofs.Roster as roster
-use Rattle.roster.proofs.Roster.Laws as roster′
 use Rattle.roster.proofs.View as view
 use Rattle.roster.proofs.View.Laws as view′
 use Rattle.site.proofs.ViewRecord as views
@@ -14,7 +11,7 @@ use Rattle.site.proofs.ViewRecord.Laws as views′
 use Rattle.speckleewe.specs.declared.ViewChangeOutcome.{ViewChangeOutcome}
 use Rattle.speckleewe.specs.Outcomes.{viewsLeft, suspects}
 use Rattle.speckleewe.proofs.ViewChangeOutcome as outcome
-use Rattle.speckleewe.proofs.Arguments.{number, struct}
+use Rattle.speckleewe.proofs.Arguments.{struct, roster, own}
 use Rattle.speckleewe.proofs.WithBuffer.{meets}
 use Rattle.speckleewe.proofs.suspicion_by_value as by-value
 use Rattle.speckleewe.proofs.suspicion_by_value.Symbol as step
@@ -31,7 +28,7 @@ speckleewe-suspicion-spec 𝓤 H 𝓜 𝓖 𝓡 =
     (tables 𝓤 H 𝓜 𝓡 code.env .C) (tables 𝓤 H 𝓜 𝓡 code.env .Λ) key.name code.function (code.unfolded 𝓤 H 𝓜 𝓡)
     (meets views.the-type views′.the-laws views′.lowers views′.the-plain
     (outcome.struct .name) ViewChangeOutcome (outcome.struct .as-values) (outcome.the-type .to-one)
-    (struct roster.the-type roster′.the-laws) (number w8) (struct view.the-type view′.the-laws) (λ κ. suspects) viewsLeft (λ d. refl)
+    roster own (struct view.the-type view′.the-laws) (λ κ. suspects) viewsLeft (λ d. refl)
     𝓤 H (𝓖 .A) (givenOf 𝓤 H 𝓜 𝓖) step.name (tablesOf 𝓤 H 𝓜 (tables 𝓤 H 𝓜 𝓡 code.env))
     (cited 𝓤 H (tripleOf 𝓤 H (𝓖 .A) by-value.signature (by-value.spec 𝓤 H (𝓖 .A) (𝓜 .mem) (𝓡 .run)))
     𝓜 𝓡 code.env step.name step.routine code.calls-speckleewe·suspicion-by-value (step-met.met 𝓤 H 𝓜 𝓖 𝓡)))
