@@ -47,13 +47,13 @@ use Rattle.table.proofs.Table.Laws as E′
 use Rattle.roster.proofs.View as G
 use Rattle.roster.proofs.View.Laws as G′
 use Rattle.leader.specs.Leader.{marksOf}
+use Rattle.leader.specs.Parts.{stateOf}
 use Rattle.leader.specs.declared.State.{State}
 use Rattle.leader.specs.declared.Marks.{Marks}
 use Rattle.leader.proofs.State as T
 use Rattle.leader.proofs.State.Laws as T′
 use Rattle.leader.proofs.Marks as K
 use Rattle.leader.proofs.Marks.Laws as K′
-use Rattle.speckleewe.specs.Outcomes.{leaderState}
 use Rattle.speckleewe.specs.declared.LeaderOutcome.{LeaderOutcome}
 use Rattle.speckleewe.specs.declared.Reply.{Reply}
 use Rattle.speckleewe.proofs.LeaderOutcome as Z
@@ -106,9 +106,9 @@ module _ (P₃ : Argument) (Rel : (κ : Lft) → State → Roster → ℕ → P�
   abbrev step-says : (κs : Lfts 2) → Args (step-ended .signature) κs → LeaderOutcome → AtExit step-ended κs → Type 0
   step-says κs a d e =
       Rel (κs .1 .0)
-      (leaderState (a .0) (now (a .1 .0)) (now (a .1 .1 .0)) (now (a .1 .1 .1 .0)) (now (a .1 .1 .1 .1 .0)) (now (a .1 .1 .1 .1 .1 .0)) (now (a .1 .1 .1 .1 .1 .1 .0)))
+      (stateOf (a .0) (now (a .1 .0)) (now (a .1 .1 .0)) (now (a .1 .1 .1 .0)) (now (a .1 .1 .1 .1 .0)) (now (a .1 .1 .1 .1 .1 .0)) (now (a .1 .1 .1 .1 .1 .1 .0)))
       (a .1 .1 .1 .1 .1 .1 .1 .0) (a .1 .1 .1 .1 .1 .1 .1 .1 .0) (a .1 .1 .1 .1 .1 .1 .1 .1 .1 .0) (now (a .1 .1 .1 .1 .1 .1 .1 .1 .1 .1 .0)) (reply d)
-      (leaderState (d .marks) (now (e .1 .0)) (now (e .1 .1 .0)) (now (e .1 .1 .1 .0)) (now (e .1 .1 .1 .1 .0)) (now (e .1 .1 .1 .1 .1 .0)) (now (e .1 .1 .1 .1 .1 .1 .0)))
+      (stateOf (d .marks) (now (e .1 .0)) (now (e .1 .1 .0)) (now (e .1 .1 .1 .0)) (now (e .1 .1 .1 .1 .0)) (now (e .1 .1 .1 .1 .1 .0)) (now (e .1 .1 .1 .1 .1 .1 .0)))
       (now (e .1 .1 .1 .1 .1 .1 .1 .1 .1 .1 .0))
 
   abbrev Step : {M : Type 1} (𝓤 : URA M) (H : Heap 𝓤) (A : Atoms 𝓤) → Contract 𝓤
@@ -243,10 +243,10 @@ module _ (P₃ : Argument) (Rel : (κ : Lft) → State → Roster → ℕ → P�
           pick ! (λ d. split ! $ move ! (1 ∷ []) $
           use1 W (some (λ (zs : Unit {0} × (ℕ × (List ℕ × (List ℕ × (List ℕ × (List ℕ × (List ℕ × (Unit {0} × (Unit {0} × (Unit {0} × (List ℕ × Unit {0}))))))))))).
           ‵ (lasts step-ended (ν ∷ [], (κ, tt)) (to-step ν γ₁ γ₂ γ₃ γ₄ γ₅ γ₆ .0 .3) zs) ⊛
-          raw (fact 𝓤 (Rel κ h x₁ x₂ x₃ ys (reply d) (leaderState (d .marks) (zs .1 .0) (zs .1 .1 .0) (zs .1 .1 .1 .0) (zs .1 .1 .1 .1 .0) (zs .1 .1 .1 .1 .1 .0)
+          raw (fact 𝓤 (Rel κ h x₁ x₂ x₃ ys (reply d) (stateOf (d .marks) (zs .1 .0) (zs .1 .1 .0) (zs .1 .1 .1 .0) (zs .1 .1 .1 .1 .0) (zs .1 .1 .1 .1 .1 .0)
           (zs .1 .1 .1 .1 .1 .1 .0)) (zs .1 .1 .1 .1 .1 .1 .1 .1 .1 .1 .0))))) (id⊢ 𝓤 _) $ pick ! (λ zs.
           let left : Marks → State =
-          λ k. leaderState k (zs .1 .0) (zs .1 .1 .0) (zs .1 .1 .1 .0) (zs .1 .1 .1 .1 .0) (zs .1 .1 .1 .1 .1 .0) (zs .1 .1 .1 .1 .1 .1 .0) in
+          λ k. stateOf k (zs .1 .0) (zs .1 .1 .0) (zs .1 .1 .1 .0) (zs .1 .1 .1 .1 .0) (zs .1 .1 .1 .1 .1 .0) (zs .1 .1 .1 .1 .1 .1 .0) in
           let t : State = left (d .marks) in
           let mid : State = left (marksOf h) in
           split ! $ move ! (1 ∷ []) $ heard ! (Rel κ h x₁ x₂ x₃ ys (reply d) t (zs .1 .1 .1 .1 .1 .1 .1 .1 .1 .1 .0)) (λ e.

@@ -41,10 +41,11 @@ use Rattle.history.proofs.History as S
 use Rattle.history.proofs.History.Laws as S′
 use Rattle.table.proofs.Table as E
 use Rattle.table.proofs.Table.Laws as E′
+use Rattle.learner.specs.Verdict.{stateOf}
 use Rattle.learner.specs.declared.State.{State}
 use Rattle.learner.proofs.State as T
 use Rattle.learner.proofs.State.Laws as T′
-use Rattle.speckleewe.specs.Outcomes.{learnerState, learns}
+use Rattle.speckleewe.specs.Outcomes.{learns}
 use Rattle.speckleewe.specs.declared.LearnerReply.{LearnerReply}
 use Rattle.speckleewe.proofs.LearnerReply as Y
 use Rattle.speckleewe.proofs.LearnerReply.Laws as Y′
@@ -73,8 +74,8 @@ step-ended =
 
 abbrev step-says : (κs : Lfts 2) → Args (step-ended .signature) κs → LearnerReply → AtExit step-ended κs → Type 0
 step-says κs a d e =
-    learns (learnerState (now (a .0)) (now (a .1 .0)) (now (a .1 .1 .0)) (now (a .1 .1 .1 .0))) (a .1 .1 .1 .1 .0) (now (a .1 .1 .1 .1 .1 .0)) d
-    (learnerState (now (e .0)) (now (e .1 .0)) (now (e .1 .1 .0)) (now (e .1 .1 .1 .0)))
+    learns (stateOf (now (a .1 .0)) (now (a .0)) (now (a .1 .1 .1 .0)) (now (a .1 .1 .0))) (a .1 .1 .1 .1 .0) (now (a .1 .1 .1 .1 .1 .0)) d
+    (stateOf (now (e .1 .0)) (now (e .0)) (now (e .1 .1 .1 .0)) (now (e .1 .1 .0)))
 
 abbrev Step : {M : Type 1} (𝓤 : URA M) (H : Heap 𝓤) (A : Atoms 𝓤) → Contract 𝓤
 Step = contractOf step-ended step-says
@@ -186,8 +187,8 @@ module _ {M : Type 1} (𝓤 : URA M) (H : Heap 𝓤) (A : Atoms 𝓤) (W : Given
         raw (ensured 𝓤 H A step-ended (stating step-ended step-says 𝓤) (ν ∷ [], (κ, tt)) (to-step ν γ₁ γ₂ γ₃ γ₄ .0 .3) tt d)))) (id⊢ 𝓤 _) $ await ! tt $ pick ! (λ d.
         split ! $ move ! (1 ∷ []) $ use1 W (some (λ (zs : List ℕ × (List ℕ × (ℕ × (List ℕ × (Unit {0} × (Unit {0} × Unit {0})))))).
         ‵ (lasts step-ended (ν ∷ [], (κ, tt)) (to-step ν γ₁ γ₂ γ₃ γ₄ .0 .3) zs) ⊛
-        raw (fact 𝓤 (learns h x₁ (now x₂) d (learnerState (zs .0) (zs .1 .0) (zs .1 .1 .0) (zs .1 .1 .1 .0)))))) (id⊢ 𝓤 _) $ pick ! (λ zs.
-        split ! $ move ! (1 ∷ []) $ heard ! (learns h x₁ (now x₂) d (learnerState (zs .0) (zs .1 .0) (zs .1 .1 .0) (zs .1 .1 .1 .0))) (λ e.
+        raw (fact 𝓤 (learns h x₁ (now x₂) d (stateOf (zs .1 .0) (zs .0) (zs .1 .1 .1 .0) (zs .1 .1 .0)))))) (id⊢ 𝓤 _) $ pick ! (λ zs.
+        split ! $ move ! (1 ∷ []) $ heard ! (learns h x₁ (now x₂) d (stateOf (zs .1 .0) (zs .0) (zs .1 .1 .1 .0) (zs .1 .1 .0))) (λ e.
         fsplit ! $ move ! (1 ∷ []) $ fsplit ! $ move ! (1 ∷ []) $ fsplit ! $ move ! (1 ∷ []) $ fsplit ! $ move ! (1 ∷ []) $ drop ! $
         -- [the last values, from the fourth part's; the tokens and the answer; the lenders' parts, from the fourth; the rests; true; …]
         move ! (4 ∷ []) $ split ! $ split ! $ move ! (2 ∷ []) $ peeks ! Y.the-row (Is Y.the-row) (shows 𝓤 H A Y.the-row) d (w ∷ []) (λ are.
@@ -195,7 +196,7 @@ module _ {M : Type 1} (𝓤 : URA M) (H : Heap 𝓤) (A : Atoms 𝓤) (W : Given
         rewrite ! 31 (λ (u : Val). ‵ (fat fullShare Y′.mir l₀ 0 u)) (ap only (LL.tells Y.the-type Y′.the-laws d _ are)) refl $
         -- the lifetime is ended, and the parts come back at their last values
         lft-end ! tt $
-        let t : State = learnerState (zs .0) (zs .1 .0) (zs .1 .1 .0) (zs .1 .1 .1 .0) in
+        let t : State = stateOf (zs .1 .0) (zs .0) (zs .1 .1 .1 .0) (zs .1 .1 .0) in
         -- [ν is over; the token; the four last values, from the last; of entries and learned the two rights and the rest; true; the state's rest; …]
         move ! (0 ∷ 6 ∷ 7 ∷ 8 ∷ 5 ∷ 4 ∷ []) $ returned-two ! tt table (t .entries .counts) (t .entries .words) (λ f₁ f₂.
         move ! (1 ∷ 5 ∷ 6 ∷ 7 ∷ 4 ∷ 3 ∷ []) $ returned-two ! tt history (t .learned .count) (t .learned .words) (λ f₃ f₄.

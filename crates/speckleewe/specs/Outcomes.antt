@@ -14,8 +14,6 @@ use Rattle.acceptor.specs.Acceptor as acceptor
 use Rattle.acceptor.specs.Parts.{stateOf}
 use Rattle.leader.specs.declared.Outcome as leading
 use Rattle.leader.specs.declared.State as leading-state
-use Rattle.leader.specs.declared.Marks as leading-marks
-use Rattle.leader.specs.Parts as leading-parts
 use Rattle.leader.specs.Leader as leader
 use Rattle.learner.specs.declared.State.{State}
 use Rattle.learner.specs.Learner as learner
@@ -70,9 +68,6 @@ accepts s r own line out a t buffer =
 
 -- ---- a leader: its step, and the opening of a ballot
 
-abbrev pub leaderState : leading-marks.Marks → ℕ → List ℕ → List ℕ → List ℕ → List ℕ → List ℕ → leading-state.State
-leaderState = leading-parts.stateOf
-
 abbrev pub leaderGiven : leading.Outcome → Left leading-state.State
 leaderGiven o = record { reply = record { answer = answerNumber (o .answer); sent = o .sent }; after = o .state }
 
@@ -85,11 +80,6 @@ opens s r own p out a t buffer =
     × (buffer ≡ leader.openingOutput r own s (p .ballot) (p .fast) out)
 
 -- ---- a learner
-
--- a state of its parts: the entries' counts and words, and the count and words of what is learned
-abbrev pub learnerState : List ℕ → List ℕ → ℕ → List ℕ → State
-learnerState counts words count learned =
-    record { entries = record { counts = counts; words = words }; learned = record { count = count; words = learned } }
 
 -- the state before, the roster and the line; the answer in numbers and the state after
 abbrev pub learns : State → Roster → List ℕ → LearnerReply → State → Type 0

@@ -4,9 +4,11 @@
 ghost use mathlib.Core.Path.{_≡_};
 ghost use Rattle.frame.specs.Layout.{longest};
 ghost use Rattle.leader.specs.Leader as leading;
+ghost use Rattle.leader.specs.Parts as leader-parts;
 ghost use Rattle.learner.specs.Learner as learning;
+ghost use Rattle.learner.specs.Verdict as learner-parts;
 ghost use Rattle.site.specs.Site as fresh;
-ghost use Rattle.speckleewe.specs.Outcomes.{accepts, changesView, freshSite, leaderState, leads, learnerState, learns, opens, siteOf, suspects, viewChangeOutcome, viewsLeft};
+ghost use Rattle.speckleewe.specs.Outcomes.{accepts, changesView, freshSite, leads, learns, opens, siteOf, suspects, viewChangeOutcome, viewsLeft};
 use learner::State;
 use roster::Ballot;
 use roster::Roster;
@@ -109,13 +111,13 @@ pub extern "C" fn speckleewe_learner_fresh() -> State
 fn numbered(o: viewchange::Outcome) -> ViewChangeOutcome
     ensures { λ n. ⌜ n ≡ viewChangeOutcome o ⌝ }
 {
-    let given = o.answer;
-    let length = o.sent;
-    let after = o.views;
+    let view_answer = o.answer;
+    let view_sent = o.sent;
+    let views_after = o.views;
     ViewChangeOutcome {
-        answer: given.number(),
-        sent: length,
-        views: after,
+        answer: view_answer.number(),
+        sent: view_sent,
+        views: views_after,
     }
 }
 
@@ -218,13 +220,13 @@ fn acceptor_in_parts<'p, 'a>(
         line,
         out,
     );
-    let said = o.answer;
-    let bytes = o.sent;
-    let after = o.marks;
+    let acceptor_answer = o.answer;
+    let acceptor_sent = o.sent;
+    let acceptor_marks = o.marks;
     SiteOutcome {
-        answer: said.number(),
-        sent: bytes,
-        marks: after,
+        answer: acceptor_answer.number(),
+        sent: acceptor_sent,
+        marks: acceptor_marks,
     }
 }
 
@@ -285,7 +287,7 @@ fn leader_in_parts<'p, 'a>(
     line: &'a [u8],
     out: &'a mut [u8],
 ) -> LeaderOutcome
-    ensures { λ o. ⌜ leads (leaderState marks (now (count .entry)) (now (pending .entry)) (now (pcounts .entry)) (now (proven .entry)) (now (hcounts .entry)) (now (held .entry))) roster own (now (line .entry)) (now (out .entry)) (record { answer = o .answer; sent = o .sent }) (leaderState (o .marks) (now (count .exit)) (now (pending .exit)) (now (pcounts .exit)) (now (proven .exit)) (now (hcounts .exit)) (now (held .exit))) (now (out .exit)) ⌝ }
+    ensures { λ o. ⌜ leads (leader-parts.stateOf marks (now (count .entry)) (now (pending .entry)) (now (pcounts .entry)) (now (proven .entry)) (now (hcounts .entry)) (now (held .entry))) roster own (now (line .entry)) (now (out .entry)) (record { answer = o .answer; sent = o .sent }) (leader-parts.stateOf (o .marks) (now (count .exit)) (now (pending .exit)) (now (pcounts .exit)) (now (proven .exit)) (now (hcounts .exit)) (now (held .exit))) (now (out .exit)) ⌝ }
 {
     let o = leader::step_in_place(
         roster,
@@ -300,13 +302,13 @@ fn leader_in_parts<'p, 'a>(
         line,
         out,
     );
-    let heard = o.answer;
-    let bytes_sent = o.sent;
-    let left = o.marks;
+    let leader_answer = o.answer;
+    let leader_sent = o.sent;
+    let leader_marks = o.marks;
     LeaderOutcome {
-        answer: heard.number(),
-        sent: bytes_sent,
-        marks: left,
+        answer: leader_answer.number(),
+        sent: leader_sent,
+        marks: leader_marks,
     }
 }
 
@@ -364,7 +366,7 @@ fn opening_in_parts<'p, 'a>(
     opening: Opening,
     out: &'a mut [u8],
 ) -> LeaderOutcome
-    ensures { λ o. ⌜ opens (leaderState marks (now (count .entry)) (now (pending .entry)) (now (pcounts .entry)) (now (proven .entry)) (now (hcounts .entry)) (now (held .entry))) roster own opening (now (out .entry)) (record { answer = o .answer; sent = o .sent }) (leaderState (o .marks) (now (count .exit)) (now (pending .exit)) (now (pcounts .exit)) (now (proven .exit)) (now (hcounts .exit)) (now (held .exit))) (now (out .exit)) ⌝ }
+    ensures { λ o. ⌜ opens (leader-parts.stateOf marks (now (count .entry)) (now (pending .entry)) (now (pcounts .entry)) (now (proven .entry)) (now (hcounts .entry)) (now (held .entry))) roster own opening (now (out .entry)) (record { answer = o .answer; sent = o .sent }) (leader-parts.stateOf (o .marks) (now (count .exit)) (now (pending .exit)) (now (pcounts .exit)) (now (proven .exit)) (now (hcounts .exit)) (now (held .exit))) (now (out .exit)) ⌝ }
 {
     let ballot = opening.ballot;
     let o = leader::open_in_place(
@@ -381,13 +383,13 @@ fn opening_in_parts<'p, 'a>(
         opening.fast,
         out,
     );
-    let told = o.answer;
-    let line_length = o.sent;
-    let opened = o.marks;
+    let opening_answer = o.answer;
+    let opening_sent = o.sent;
+    let opening_marks = o.marks;
     LeaderOutcome {
-        answer: told.number(),
-        sent: line_length,
-        marks: opened,
+        answer: opening_answer.number(),
+        sent: opening_sent,
+        marks: opening_marks,
     }
 }
 
@@ -440,12 +442,12 @@ fn learner_in_parts<'p, 'a>(
     roster: Roster,
     line: &'a [u8],
 ) -> LearnerReply
-    ensures { λ r. ⌜ learns (learnerState (now (counts .entry)) (now (words .entry)) (now (count .entry)) (now (learned .entry))) roster (now (line .entry)) r (learnerState (now (counts .exit)) (now (words .exit)) (now (count .exit)) (now (learned .exit))) ⌝ }
+    ensures { λ r. ⌜ learns (learner-parts.stateOf (now (words .entry)) (now (counts .entry)) (now (learned .entry)) (now (count .entry))) roster (now (line .entry)) r (learner-parts.stateOf (now (words .exit)) (now (counts .exit)) (now (learned .exit)) (now (count .exit))) ⌝ }
 {
     let o = learner::step_in_place(roster, counts, words, count, learned, line);
-    let answer = o.answer;
+    let learner_answer = o.answer;
     LearnerReply {
-        answer: answer.number(),
+        answer: learner_answer.number(),
         supporters: o.supporters,
     }
 }

@@ -2,7 +2,8 @@
 -- Assumes nothing.
 use mathlib.Core.Path.{ap, _∙_}
 use borrow.Author.Needs.{needs}
-use Rattle.speckleewe.specs.Outcomes.{leaderGiven, leaderState}
+use Rattle.leader.specs.Parts.{stateOf}
+use Rattle.speckleewe.specs.Outcomes.{leaderGiven}
 use Rattle.speckleewe.proofs.leader_in_parts.Statement.{statement}
 use Rattle.speckleewe.proofs.leader_in_parts.Tie as tie
 
@@ -17,7 +18,7 @@ same-length c = search needs
 
 returns : tie.Need-returns
 returns c = (
-  (λ i. record { reply = record { answer = c .number .ensures i; sent = c .before .before .before .before .step-in-place .result .sent }; after = leaderState (c .before .before .before .before .step-in-place .result .marks) (c .before .before .before .before .step-in-place .last .1 .1 .1 .0) (c .before .before .before .before .step-in-place .last .1 .1 .1 .1 .0) (c .before .before .before .before .step-in-place .last .1 .1 .1 .1 .1 .0) (c .before .before .before .before .step-in-place .last .1 .1 .1 .1 .1 .1 .0) (c .before .before .before .before .step-in-place .last .1 .1 .1 .1 .1 .1 .1 .0) (c .before .before .before .before .step-in-place .last .1 .1 .1 .1 .1 .1 .1 .1 .0) })
+  (λ i. record { reply = record { answer = c .number .ensures i; sent = c .before .before .before .before .step-in-place .result .sent }; after = stateOf (c .before .before .before .before .step-in-place .result .marks) (c .before .before .before .before .step-in-place .last .1 .1 .1 .0) (c .before .before .before .before .step-in-place .last .1 .1 .1 .1 .0) (c .before .before .before .before .step-in-place .last .1 .1 .1 .1 .1 .0) (c .before .before .before .before .step-in-place .last .1 .1 .1 .1 .1 .1 .0) (c .before .before .before .before .step-in-place .last .1 .1 .1 .1 .1 .1 .1 .0) (c .before .before .before .before .step-in-place .last .1 .1 .1 .1 .1 .1 .1 .1 .0) })
       ∙ ap leaderGiven (c .before .before .before .before .step-in-place .ensures .0),
   c .before .before .before .before .step-in-place .ensures .1,
 )
