@@ -68,7 +68,7 @@ use Rattle.speckleewe.proofs.Lent.{entry-slot, buffer-slot, keeping, st
 use Rattle.speckleewe.proofs.Entry.{Entry, Call, Walk, args, vals, passed, taken, ended, clauses, exits, meets as by-walk}
 use Rattle.speckleewe.proofs.Parts.{ty, history, table, part-slot, refs, ptrs, lending-two, returned-two, fields as cells, Rest, apart, together}
 
--- the site and its laws; its parts, with their types; the marks; and the outcome of the step
+-- the site and the outcome of the step, with their laws; and the types of the fields of a state and of a site
 abbrev R : Declared
 R = D.the-type
 
@@ -99,6 +99,7 @@ stateVals s =
 abbrev siteVals : Site → Vals
 siteVals s = vcons (LL.val Q.the-type Q′.the-laws (s .views)) (vcons (LL.val T.the-type T′.the-laws (s .acceptor)) vnil)
 
+-- the marks of a state
 abbrev marksOf : State → Marks
 marksOf s = record { ballot = s .ballot; fast = s .fast; signed = s .signed; certified = s .certified; certificate = s .certificate }
 

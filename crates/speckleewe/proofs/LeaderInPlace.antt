@@ -65,7 +65,7 @@ use Rattle.speckleewe.proofs.Lent.{entry-slot, buffer-slot, keeping, st
 use Rattle.speckleewe.proofs.Entry.{Entry, Call, Walk, args, vals, passed, taken, ended, clauses, exits, meets as by-walk}
 use Rattle.speckleewe.proofs.Parts.{ty, history, table, part-slot, refs, ptrs, lending-two, returned-two, fields as cells, Rest, apart, together}
 
--- the state and its laws; its parts, with their types; the marks; and the outcome of the step
+-- the state and the outcome of the step, with their laws; and the types of a state's fields
 abbrev R : Declared
 R = T.the-type
 

@@ -1,8 +1,12 @@
--- What the walks of the entries over a lent record share. There are two ways.
+-- What the walks of the entries over a lent record share: how their contracts are made, and the first steps of a walk. An entry meets its contract in two
+-- ways.
 -- The small view-change record is copied: `WithBuffer` is the walk of an entry that copies the lent record, calls a step by value on it, stores the
 -- record of the step's outcome, and answers the outcome's two numbers. It is of any record, any three arguments and any step.
--- The parts of a large record are lent on: `Parts` has how a record is taken apart, its parts lent for the time of a call and the record put together
--- again. `LearnerInPlace`, `LeaderInPlace` and `AcceptorInPlace` are the walks; the leader's is of any third argument, so it serves step and opening.
+-- The parts of a large record are lent on: `Parts` has how a record is taken apart, its histories and tables lent for the time of a call and the record
+-- put together again. `LearnerInPlace`, `LeaderInPlace` and `AcceptorInPlace` are the walks; the leader's is of any third argument, so it serves step
+-- and opening.
+-- `Entry` has what the proof of an entry is besides its walk: the contract, what the walk ends in, and that the entry meets the contract by the walk.
+-- It is of any record, any three arguments and any relation, and of a buffer and a `Reply`; the learner, which has no buffer, has its own.
 --
 -- How an entry over a copied record is added:
 -- 1. In `specs/`: a relation of the record before, the arguments, the buffer before, the step's outcome and the buffer after; and the outcome that
@@ -12,10 +16,13 @@
 --    argument is a number, a struct of numbers, or a `&'a [u8]`, which has the buffer's lifetime `'a`. Several numbers make one struct.
 -- 4. The entry: the same parameters with the record by `&mut`, the relation at the record's entry and exit, and the four lines of the other entries.
 -- 5. Its proof: that of `speckleewe_view_change`, with the modules of this record, outcome and step, the arguments and the relation.
--- A further argument is a further shape: in the walk, each place in the context that lies behind the arguments' locals moves by two.
+-- A further argument is a further shape: in `Entry` it stands beside the others, and in the walk each place in the context that lies behind the
+-- arguments' locals moves by two.
+-- An entry whose record's parts are lent on has its own walk, over its own `Entry`; `LeaderInPlace` is the one to begin from.
 --
--- How to read a walk in place: each comment in brackets is the context at that place, from its front. `lending` takes a part's cell and leaves the
--- reference and the lender's right; `returned` takes the right, the last value and that the lifetime is over, and leaves the cell.
+-- How to read a walk: each comment in brackets is the context at that place, from its front. `lending-two` takes the cell of a history or a table and
+-- leaves the references to its parts, the lenders' rights and what makes the cell of the parts again; `returned-two` takes these, the last values and
+-- that the lifetime is over, and leaves the cell.
 use mathlib.Core.Path.{_≡_}
 use Prim.Native.Nat.{ℕ}
 use mathlib.Core.List.{[], _∷_, List}

@@ -4,6 +4,7 @@ mod Lent
 mod Entry
 mod WithBuffer
 mod Parts
+mod Replies
 mod LearnerInPlace
 mod LeaderInPlace
 mod AcceptorInPlace

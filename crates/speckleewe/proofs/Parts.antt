@@ -1,9 +1,12 @@
--- A record that is lent is taken apart, its parts are lent on for the time of a call, and it is put together again of what they then hold.
+-- A record that is lent is taken apart, its parts are lent on for the time of a call, and it is put together again of what they then hold: a struct's cell
+-- is its fields' cells, and a part that is lent is a cell again once the lifetime is over.
 --     Part             a part's type: numbers, or one number
 --     lends            the part's cell is lent for κ
 --     comes-back       once κ is over it is a cell again, and holds the part's last value
 --     fields, Rest     a struct's cell is its fields' cells and what makes the struct of them again
 --     apart, together  and back
+--     Two              a struct of two parts: a history, a table
+--     lending-two, returned-two    the steps of a walk that lend its parts and take them back
 use mathlib.Core.Path.{_≡_, refl, sym, ap, subst}
 use Prim.Native.Nat.{ℕ, _+_}
 use mathlib.Core.List.{List, [], _∷_, map}

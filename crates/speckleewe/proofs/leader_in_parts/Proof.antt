@@ -2,8 +2,8 @@
 -- Assumes nothing.
 use mathlib.Core.Path.{ap, _∙_}
 use borrow.Author.Needs.{needs}
-use Rattle.leader.specs.Parts.{stateOf}
 use Rattle.speckleewe.specs.Outcomes.{leaderGiven}
+use Rattle.speckleewe.proofs.Replies.{same-number}
 use Rattle.speckleewe.proofs.leader_in_parts.Statement.{statement}
 use Rattle.speckleewe.proofs.leader_in_parts.Tie as tie
 
@@ -17,11 +17,9 @@ same-length : tie.Need-same-length
 same-length c = search needs
 
 returns : tie.Need-returns
-returns c = (
-  (λ i. record { reply = record { answer = c .number .ensures i; sent = c .before .before .before .before .step-in-place .result .sent }; after = stateOf (c .before .before .before .before .step-in-place .result .marks) (c .before .before .before .before .step-in-place .last .1 .1 .1 .0) (c .before .before .before .before .step-in-place .last .1 .1 .1 .1 .0) (c .before .before .before .before .step-in-place .last .1 .1 .1 .1 .1 .0) (c .before .before .before .before .step-in-place .last .1 .1 .1 .1 .1 .1 .0) (c .before .before .before .before .step-in-place .last .1 .1 .1 .1 .1 .1 .1 .0) (c .before .before .before .before .step-in-place .last .1 .1 .1 .1 .1 .1 .1 .1 .0) })
-      ∙ ap leaderGiven (c .before .before .before .before .step-in-place .ensures .0),
-  c .before .before .before .before .step-in-place .ensures .1,
-)
+returns c =
+    let call = c .before .before .before .before .step-in-place in
+    (same-number (c .number .ensures) ∙ ap leaderGiven (call .ensures .0), call .ensures .1)
 
 pub leader-in-parts-spec : {M : Type 1} → statement M
 leader-in-parts-spec =

@@ -19,11 +19,11 @@ number-requires : tie.Need-number-requires
 number-requires c κs = search needs
 
 returns : tie.Need-returns
-returns c = (
-  (λ i. record { answer = c .number .ensures i; supporters = c .before .step-in-place .result .supporters })
-      ∙ ap (λ (o : Outcome). numbered o) (c .before .step-in-place .ensures),
-  ap (λ (o : Outcome). o .state) (c .before .step-in-place .ensures),
-)
+returns c =
+    let call = c .before .step-in-place in (
+      (λ i. record { answer = c .number .ensures i; supporters = call .result .supporters }) ∙ ap (λ (o : Outcome). numbered o) (call .ensures),
+      ap (λ (o : Outcome). o .state) (call .ensures),
+    )
 
 pub learner-in-parts-spec : {M : Type 1} → statement M
 learner-in-parts-spec = tie.close (tie.spec step-in-place-requires number-requires returns)
