@@ -57,8 +57,6 @@ use Rattle.speckleewe.specs.declared.LeaderOutcome.{LeaderOutcome}
 use Rattle.speckleewe.specs.declared.Reply.{Reply}
 use Rattle.speckleewe.proofs.LeaderOutcome as Z
 use Rattle.speckleewe.proofs.LeaderOutcome.Laws as Z′
-use Rattle.speckleewe.proofs.Reply as Y
-use Rattle.speckleewe.proofs.Reply.Laws as Y′
 use Rattle.speckleewe.proofs.Arguments.{Argument, roster, own}
 use Rattle.speckleewe.proofs.Lent.{buffer-locals, keeping, stating, contractOf, asks-nothing, loaded, opened}
 use Rattle.speckleewe.proofs.Entry.{Entry, Call, Walk, handed-slots, code, args, vals, passed, taken, ended, clauses, exits, meets as by-walk}
@@ -292,7 +290,7 @@ module _ (P₃ : Argument) (Rel : (κ : Lft) → State → Roster → ℕ → P�
           returns ! (look ! 44 refl) $ forget ! 6 refl $ forget ! 8 refl $ forget ! 10 refl $ forget ! 12 refl $ forget ! 14 refl $ forget ! 16 refl $ forget ! 18 refl $ forget ! 20 refl $ forget ! 22 refl $ forget ! 24 refl $ forget ! 26 refl $ forget ! 28 refl $ forget ! 30 refl $ forget ! 32 refl $ forget ! 34 refl $ forget ! 36 refl $ forget ! 38 refl $ forget ! 40 refl $ forget ! 42 refl $ forget ! 44 refl $
           move ! (44 ∷ 45 ∷ []) $ free1 ! $ move ! (42 ∷ 43 ∷ []) $ free1 ! $ move ! (40 ∷ 41 ∷ []) $ free1 ! $ move ! (38 ∷ 39 ∷ []) $ free1 ! $ move ! (36 ∷ 37 ∷ []) $ free1 ! $ move ! (34 ∷ 35 ∷ []) $ free1 ! $ move ! (32 ∷ 33 ∷ []) $ free1 ! $ move ! (30 ∷ 31 ∷ []) $ free1 ! $ move ! (28 ∷ 29 ∷ []) $ free1 ! $ move ! (26 ∷ 27 ∷ []) $ free1 ! $ move ! (24 ∷ 25 ∷ []) $ free1 ! $ move ! (22 ∷ 23 ∷ []) $ free1 ! $ move ! (20 ∷ 21 ∷ []) $ free1 ! $ move ! (18 ∷ 19 ∷ []) $ free1 ! $ move ! (16 ∷ 17 ∷ []) $ free1 ! $ move ! (14 ∷ 15 ∷ []) $ free1 ! $ move ! (12 ∷ 13 ∷ []) $ free1 ! $ move ! (10 ∷ 11 ∷ []) $ free1 ! $ move ! (8 ∷ 9 ∷ []) $ free1 ! $ move ! (6 ∷ 7 ∷ []) $ free1 ! $ free0 ! $
           keep ! (0 ∷ 1 ∷ 2 ∷ 3 ∷ 4 ∷ []) $
-          by ! (exits I c 𝓤 H A W (reply d) t (zs .1 .1 .1 .1 .1 .1 .1 .1 .1 .1 .0) e l (LL.owes Y.the-type Y′.the-laws (reply d) ((refl, gave .0 .1), ((refl, gave .1 .0 .1), tt))))))))))))))))))))))))))))))))))))))
+          by ! (exits I c 𝓤 H A W (reply d) t (zs .1 .1 .1 .1 .1 .1 .1 .1 .1 .1 .0) e l (gave .0 .1) (gave .1 .0 .1))))))))))))))))))))))))))))))))))))
 
   module _ {M : Type 1} (𝓤 : URA M) (H : Heap 𝓤) (A : Atoms 𝓤) (W : Given 𝓤 H A) (#step : Name) (𝓣 : Tables 𝓤 H) where
     pub meets : Triple 𝓤 (𝓣 .C #step) (Step 𝓤 H A)

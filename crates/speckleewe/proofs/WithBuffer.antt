@@ -36,8 +36,6 @@ use denote.Triple.Statement.{Contract, Triple}
 use denote.Triple.Call.{calls-at}
 use denote.Triple.Clauses.{Ended, AtExit, ensured, lasts, closing}
 use Rattle.speckleewe.specs.declared.Reply.{Reply}
-use Rattle.speckleewe.proofs.Reply as Y
-use Rattle.speckleewe.proofs.Reply.Laws as Y′
 use Rattle.speckleewe.proofs.Arguments.{Argument}
 use Rattle.speckleewe.proofs.Lent.{parts, outcomeOf, partLaws, by-value, step-slot, keeping, stating, contractOf, buffer-locals, asks-nothing, loaded, opened}
 use Rattle.speckleewe.proofs.Entry.{Entry, Call, Walk, code, args, vals, passed, taken, ended, clauses, exits, meets as by-walk}
@@ -146,7 +144,7 @@ module _ (R : Declared) (R′ : LL.Laws R) (low : LL.Lowered R) (only-facts : Pl
             move ! (10 ∷ 11 ∷ []) $ free1 ! $ move ! (8 ∷ 9 ∷ []) $ free1 ! $ free0 ! $
             keep ! (0 ∷ 1 ∷ 2 ∷ 4 ∷ 5 ∷ []) $ by ! (exits I c 𝓤 H A W (reply d) (after d) (zs .1 .1 .1 .1 .0)
             (subst (λ (d′ : D). Rel κ h x₁ x₂ x₃ ys d′ (zs .1 .1 .1 .1 .0)) (given d) e) l
-            (LL.owes Y.the-type Y′.the-laws (reply d) ((refl, of .0 .1), ((refl, of .1 .0 .1), tt)))))))))))))))))))))
+            (of .0 .1) (of .1 .0 .1)))))))))))))))))))
 
     module _ {M : Type 1} (𝓤 : URA M) (H : Heap 𝓤) (A : Atoms 𝓤) (W : Given 𝓤 H A) (#step : Name) (𝓣 : Tables 𝓤 H) where
       pub meets : Triple 𝓤 (𝓣 .C #step) (Step 𝓤 H A)
