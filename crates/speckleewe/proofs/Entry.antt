@@ -111,7 +111,7 @@ module _ (I : Entry) where
     abbrev pub args : RefT (R .D) × (P₁ .at κ .Denot × (P₂ .at κ .Denot × (P₃ .at κ .Denot × (RefT (List ℕ) × Unit {0}))))
     args = (ref b o γ h, (x₁, (x₂, (x₃, (ref b′ o′ γ′ ys, tt)))))
 
-    abbrev pub slice : Val
+    abbrev slice : Val
     slice = sliceVal (b′, o′) (length ys)
 
     abbrev pub vals : List Val × (List Val × (List Val × (List Val × (List Val × Unit {0}))))
@@ -120,12 +120,9 @@ module _ (I : Entry) where
     abbrev pub passed : List Val
     passed = vptr b o ∷ P₁ .val κ x₁ ∷ P₂ .val κ x₂ ∷ P₃ .val κ x₃ ∷ slice ∷ []
 
-    -- the types of what is handed on to the step, and of all
-    abbrev pub handed : List RattleType
-    handed = rowAt P₁ (named 1) κ ∷ rowAt P₂ (named 1) κ ∷ rowAt P₃ (named 1) κ ∷ MutSlice (named 1) κ u8 ∷ []
-
+    -- its types
     abbrev pub taken : List RattleType
-    taken = MutRef (named 0) κᵣ (row R) ∷ handed
+    taken = MutRef (named 0) κᵣ (row R) ∷ rowAt P₁ (named 1) κ ∷ rowAt P₂ (named 1) κ ∷ rowAt P₃ (named 1) κ ∷ MutSlice (named 1) κ u8 ∷ []
 
     module _ {M : Type 1} (𝓤 : URA M) (H : Heap 𝓤) (A : Atoms 𝓤) where
       abbrev pub Post : Val → SProp 𝓤

@@ -139,7 +139,7 @@ module _ {M : Type 1} (𝓤 : URA M) (H : Heap 𝓤) (A : Atoms 𝓤) (W : Given
         (apply∗ 𝓤 (fieldsAt 𝓤 H fullShare τs 0 b o us) (H .at fullShare (tyStruct ν τs) b o (vstruct us)))
 
 -- a part that is lent for κ, as the step's parameter
-abbrev pub lent : Part → Lft → RattleType
+abbrev lent : Part → Lft → RattleType
 lent P κ = MutRef (named 0) κ (P .type)
 
 abbrev part-slot : Part → Slot 2
@@ -159,7 +159,7 @@ abbrev pub table : Two
 table = record { name = Table.the-type .name; P = bytes 16; Q = words 512 }
 
 module _ (S : Two) where
-  open Two S using (name, P, Q)
+  open Two S using (P, Q)
 
   abbrev tys : Tys
   tys = tcons (ty P) (tcons (ty Q) tnil)
