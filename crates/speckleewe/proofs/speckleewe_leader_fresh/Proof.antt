@@ -8,7 +8,7 @@ fresh-requires : tie.Need-fresh-requires
 fresh-requires c κs = search needs
 
 returns : tie.Need-returns
-returns c = search needs
+returns c = c .fresh .ensures
 
 pub speckleewe-leader-fresh-spec : {M : Type 1} → statement M
 speckleewe-leader-fresh-spec = tie.close (tie.spec fresh-requires returns)
