@@ -1,24 +1,47 @@
 #!/usr/bin/env bash
-# All tests: first `rt ci`, which proves every crate from nothing, tries the wrong programs and runs each program; then the tests in other
-# languages, over what was proved. The last line is that of `rt ci`; the exit status is 0 only if everything passed.
+# All tests, from nothing: proves every crate and runs each program, tries the wrong programs, and runs the tests in other languages over what was
+# proved. Stops at the first that fails. The last line is `N passed, M failed`; the exit status is 0 only if everything passed.
 set -euo pipefail
 cd "$(dirname "$0")/.."
 log=$(mktemp)
-trap 'rm -f "$log"' EXIT
-rt ci | tee "$log"
-last=$(tail -n 1 "$log")
-python3 tests/tables/site_lines.py --check crates/site_lines
-tests/learn.sh target/bin/learn
-rt staticlib speckleewe >/dev/null
+passed=0
+ended() {
+    status=$?
+    rm -f "$log"
+    if [ $status -ne 0 ]; then echo "$passed passed, 1 failed"; fi
+}
+trap ended EXIT
+
+# pass COMMAND...: a test that passes if the command does
+pass() {
+    local began=$SECONDS
+    "$@"
+    passed=$((passed + 1))
+    echo "passed: $* ($((SECONDS - began)) s)"
+}
+
+# count PATTERN: what the last command that wrote to the log counted
+count() { sed -n "s/$1/\1/p" "$log"; }
+
+pass python3 tests/evidence.py
+rm -rf target
+rt check | tee "$log"
+passed=$((passed + $(count '^rt: ok, \([0-9]*\) crates proved$')))
+python3 tests/wrong_programs.py | tee "$log"
+passed=$((passed + $(count '^\([0-9]*\) refused, 0 failed$')))
+pass python3 tests/tables/site_lines.py --check crates/site_lines
+pass tests/learn.sh target/bin/learn
+pass rt staticlib speckleewe
 library=target/staticlib/libspeckleewe.a
-tests/layout/run.sh
-tests/symbols.sh $library
-python3 tests/stack.py $library
-tests/example.sh $library
-tests/fuzz/run.sh $library
-tests/model/run.sh $library --self
+pass tests/layout/run.sh
+pass tests/symbols.sh $library
+pass python3 tests/stack.py $library
+pass tests/example.sh $library
+pass tests/fuzz/run.sh $library
+pass tests/model/run.sh $library --self
 for role in learner viewchange acceptor leader; do
-    tests/model/run.sh $library $role
+    pass tests/model/run.sh $library $role
 done
-tests/cluster/run.sh $library
-echo "$last"
+pass tests/cluster/run.sh $library
+echo "all tests took $SECONDS s"
+echo "$passed passed, 0 failed"

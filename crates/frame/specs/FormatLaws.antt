@@ -407,9 +407,6 @@ writable-n f e = proper-n f (writable-is f e .values-proper)
 pub writable-m : (f : Frame) → writable f ≡ true → f .m ≤ limit
 writable-m f e = proper-m f (writable-is f e .values-proper)
 
-pub writable-words : (f : Frame) → writable f ≡ true → length (f .words) ≡ capacity
-writable-words f e = fit-length (commands capacity) (f .words) (writable-is f e .words-fit) ∙ length-replicate capacity commandWidth
-
 -- ---- what is read
 
 module _ (l : List ℕ) (kinds : ℕ) where
@@ -447,17 +444,8 @@ module _ (l : List ℕ) (kinds : ℕ) where
     pub found-writable : writable (readingOf l kinds .frame) ≡ true
     found-writable = ap writable found-frame ∙ frame-is-writable l found-line
 
-    pub found-line-of : lineOf (readingOf l kinds .frame) ≡ l
-    found-line-of = ap lineOf found-frame ∙ line-of-frame l found-line
-
     pub found-n : readingOf l kinds .frame .n ≤ limit
     found-n = writable-n (readingOf l kinds .frame) found-writable
-
-    pub found-m : readingOf l kinds .frame .m ≤ limit
-    found-m = writable-m (readingOf l kinds .frame) found-writable
-
-    pub found-words : length (readingOf l kinds .frame .words) ≡ capacity
-    found-words = writable-words (readingOf l kinds .frame) found-writable
 
   -- what holds of each frame that can be written and of the blank one holds of what is read, found or not
   read-frame : (P : Frame → Type 0) → ((f : Frame) → writable f ≡ true → P f) → P blank → P (readingOf l kinds .frame)

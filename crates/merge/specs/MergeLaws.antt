@@ -240,9 +240,6 @@ length-appended g (c ∷ h) = go (present c g) (length-appended (cond (present c
 merge-equivalent : (g h : List ℕ) {m : List ℕ} → merge g h ≡ some m → Equivalent m (appended g h)
 merge-equivalent g h e = rw (found g h e .order) (canonical-equivalent (appended g h))
 
-pub merge-length : (g h : List ℕ) {m : List ℕ} → merge g h ≡ some m → length m ≤ length g + length h
-merge-length g h e = omega (arith, equivalent-length (merge-equivalent g h e), length-appended g h)
-
 -- the merge of lists of valid commands in which no request is repeated is a valid history
 pub merge-valid : (g h : List ℕ) {m : List ℕ} → allValid g ≡ true → repeated g ≡ false → allValid h ≡ true → merge g h ≡ some m → ValidHistory m
 merge-valid g h p u q e =

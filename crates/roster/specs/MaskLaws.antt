@@ -172,10 +172,7 @@ beyond-shift mask n =
 pub beyond-wide : (k mask n : ℕ) → mask < 2 ^ k → k ≤ n → beyond mask n ≡ false
 beyond-wide k mask n h l = beyond-false mask n .1 (lt-of-lt-of-le h (pow-mono l))
 
--- where there is none, no site from n on has its bit set, the ones are sites below n, and the mask is theirs
-pub inside-bit : (mask n : ℕ) → beyond mask n ≡ false → (i : ℕ) → n ≤ i → bit mask i ≡ false
-inside-bit mask n e i l = bit-out mask n i (beyond-false mask n .0 e) l
-
+-- where there is none, the ones are sites below n
 pub inside-ones : (mask n : ℕ) → beyond mask n ≡ false → ones mask ≡ countTo n (bit mask)
 inside-ones mask n e = ones-count n mask (beyond-false mask n .0 e)
 

@@ -48,6 +48,7 @@ use Rattle.site.proofs.ViewRecord as Q
 use Rattle.site.proofs.ViewRecord.Laws as Q′
 use Rattle.acceptor.specs.declared.State.{State}
 use Rattle.acceptor.specs.declared.Marks.{Marks}
+use Rattle.acceptor.specs.Parts.{marksOf}
 use Rattle.acceptor.proofs.State as T
 use Rattle.acceptor.proofs.State.Laws as T′
 use Rattle.acceptor.proofs.Marks as K
@@ -96,10 +97,7 @@ stateVals s =
 abbrev siteVals : Site → Vals
 siteVals s = vcons (LL.val Q.the-type Q′.the-laws (s .views)) (vcons (LL.val T.the-type T′.the-laws (s .acceptor)) vnil)
 
--- the marks of a state
-abbrev marksOf : State → Marks
-marksOf s = record { ballot = s .ballot; fast = s .fast; signed = s .signed; certified = s .certified; certificate = s .certificate }
-
+-- the numbers of the reply
 abbrev reply : SiteOutcome → Reply
 reply d = record { answer = d .answer; sent = d .sent }
 
