@@ -5,6 +5,7 @@ docs/TRACE.md   each link `[`NAME`](FILE)` names something that FILE declares; e
                 precondition; and a declaration that nothing uses is linked there too, as a theorem for the reader, or it is dead.
 docs/TRUST.md   the table of definitions is what the contracts of the exported functions and the claim of agreement reach, with its line counts.
 README.md       the map of crates has a row for each line of crates.txt.
+All pages       a law that is named in backticks is declared somewhere.
 All files       each opens with a comment that says what it is for.
 
 `evidence.py --trust` prints the table of docs/TRUST.md."""
@@ -16,10 +17,15 @@ from pathlib import Path
 
 ROOT = Path(__file__).resolve().parent.parent
 CRATES = ROOT / 'crates'
-# what the definitions that must be believed are reached from: the exported functions' contracts, the agreement of learners, and that reading
-# and writing are inverse
+# what the definitions that must be believed are reached from: the exported functions' contracts, the agreement of learners, what a merge is, and the
+# statement about the samples
 EXPORTS = 'crates/speckleewe/src/lib.rt'
-CLAIM = ('crates/agreement/specs/Agreement.antt', 'Claim')
+CLAIMS = (
+    ('crates/agreement/specs/Agreement.antt', 'Claim'),
+    ('crates/merge/specs/Merge.antt', 'IsMerge'),
+    ('crates/samples/specs/Samples.antt', 'samples'),
+    ('crates/samples/specs/Samples.antt', 'AllHold'),
+)
 TOKEN = re.compile(r'[^\s(){}\[\];,`"⌜⌝λ]+')
 SIGNATURE = re.compile(r'^( *)(?:abbrev |unfoldable )?(?:pub )?([^\s:(){}|]+) :(?:\s|$)')
 PASSED = re.compile(r'\s*(use|pub use|unfoldable pub use|mod|pub mod|infix\w*|unfolding)\b')
@@ -147,8 +153,7 @@ def dead(cited):
         for block in blocks(path):
             text = '\n'.join(bare(line) for line in lines_of(path)[block.start:block.end + 1])
             used.update(found for found in mentions(path, text) if found != (path, block.name))
-        heads = [line for line in lines_of(path) if line.lstrip().startswith(('module ', '    '))]
-        used.update(mentions(path, '\n'.join(bare(line) for line in heads if line.lstrip().startswith('module '))))
+        used.update(mentions(path, '\n'.join(bare(line) for line in lines_of(path) if line.lstrip().startswith('module '))))
     return ['%s: nothing uses %s, nor does docs/TRACE.md cite it' % (shown(path), block.name)
             for path in files if path.name != 'Proof.antt' for block in blocks(path)
             if (path, block.name) not in used and (path, block.name) not in cited]
@@ -215,10 +220,12 @@ def struct_lines(path, name):
 
 def reached():
     """The declarations that a reader must believe: file -> the numbers of their lines."""
-    found, todo = defaultdict(set), [(ROOT / CLAIM[0], CLAIM[1])]
+    found, todo = defaultdict(set), [(ROOT / path, name) for path, name in CLAIMS]
     exports = ROOT / EXPORTS
     for name, public, text in functions(exports):
         if public:
+            start = next(i for i, row in enumerate(lines_of(exports)) if re.search(r'\bfn %s\b' % name, row))
+            found[exports].update(range(start, start + text.count('\n')))
             clauses = ' '.join(re.findall(r'ensures \{(.*)\}', text))
             todo += list(mentions(exports, clauses))
     seen = set()
@@ -260,15 +267,38 @@ def trust():
 
 def readme():
     text = (ROOT / 'README.md').read_text()
-    rows = set(re.findall(r'`(\w+)`', ' '.join(re.findall(r'^\| (`[^|]*) \|', text, re.M))))
+    rows = crate_rows(text)
     listed = {line.split(':')[0] for line in (ROOT / 'crates.txt').read_text().split('\n') if ':' in line and not line.startswith('#')}
-    return ['README.md: the map has no row for %s' % c for c in sorted(listed - rows)]
+    crates = {path.parts[-3] for path in sources('*/src/*.rt')}
+    return (['README.md: the map has no row for %s' % c for c in sorted(listed - rows)]
+            + ['README.md: the map has a row for %s, which is no crate' % c for c in sorted(crate_rows(text) - listed)]
+            + ['crates.txt: %s is not listed, or is not there' % c for c in sorted(listed ^ crates)]
+            + ['README.md: %s is not filled in' % word for word in re.findall(r'@\w+', text)])
+
+
+def crate_rows(text):
+    """The crates in the first column of README's map, which is its first table."""
+    table = text[text.index('| crate |'):]
+    return set(re.findall(r'^\| `(\w+)` \|', table[:table.index('\n\n')], re.M))
+
+
+def laws():
+    """Laws have hyphens in their names; each that a page names must be there."""
+    known = {name for path in sources('*/specs/**/*.antt') + sources('*/proofs/**/*.antt') for name in declared(path)}
+    return ['%s names %s, which is nowhere' % (shown(page), name)
+            for page in [ROOT / 'README.md'] + sorted((ROOT / 'docs').glob('*.md')) if page.name != 'WRONG-PROGRAMS.md'
+            for name in sorted(set(re.findall(r'`([a-z]+(?:-[a-z0-9]+)+)`', page.read_text()))) if name not in known and not linked_there(page, name)]
+
+
+def linked_there(page, name):
+    """Whether a page's links have the name, so that `trace` looks at it."""
+    return any(name == n for n, _ in links(page))
 
 
 def openings():
     faults = []
     for path in sources('*/specs/**/*.antt') + sources('*/proofs/**/*.antt') + sources('*/src/*.rt'):
-        if path.name != 'Lib.antt' and not re.match(r'(--|//) \S', lines_of(path)[0]):
+        if not re.match(r'(--|//) \S', lines_of(path)[0]):
             faults.append('%s does not open with what it is for' % shown(path))
     for path in sources('*/must-fail/*.edit'):
         if not lines_of(path)[0].startswith('# '):
@@ -280,7 +310,7 @@ def main():
     if '--trust' in sys.argv:
         print('\n'.join(trust_table()))
         return
-    faults = trace() + trust() + readme() + openings()
+    faults = trace() + trust() + readme() + laws() + openings()
     for fault in faults:
         print(fault)
     print('evidence: %s' % ('%d faults' % len(faults) if faults else 'the pages say what is there'))

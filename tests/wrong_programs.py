@@ -5,7 +5,7 @@
 (`rt dev`), so that only what the edit changes is checked. The right crate is checked first, in this run, and must be proved.
 Beyond what `rt ci` asks, the first error must be a fact that no longer holds: an edit that only makes a proof file unfit for the code, or
 the code unfit for the compiler, shows nothing and fails. docs/WRONG-PROGRAMS.md must say of each edit what it stands for and where it is refused;
-`--write` writes that page anew.
+`--write`, with no crate named, writes that page anew.
 
 Run after `rt check`; the logs stay in target/wrong-programs/CRATE/LABEL.log. The last line is `N refused, M failed`."""
 import os
@@ -20,8 +20,8 @@ from pathlib import Path
 ROOT = Path(__file__).resolve().parent.parent
 WORK = ROOT / 'target' / 'wrong-programs'
 PAGE = ROOT / 'docs' / 'WRONG-PROGRAMS.md'
-# what antt says where an edit has changed which facts a function needs, so that its proof file no longer fits
-UNFIT = re.compile(r'that can be named from here|has no field')
+# what antt says where an edit has changed which facts a function needs, or the shape of what a proof takes apart, so that the proof no longer fits
+UNFIT = re.compile(r'that can be named from here|has no field|is for an impossible case')
 
 
 def libraries(crate, lines):
@@ -135,7 +135,7 @@ def attempt(crate, edit, lines):
     wrong = apply(edit, top / 'crates' / crate)
     if wrong:
         return None, '%s: BAD EDIT: %s' % (name, wrong)
-    shutil.copytree(WORK / crate / '.right' / 'target' / 'inc' / crate, top / 'target' / 'inc' / crate, copy_function=os.link)
+    shutil.copytree(WORK / crate / '.right' / 'target' / 'inc' / crate, top / 'target' / 'inc' / crate)
     status, said, took = check(top, crate, WORK / crate / (edit.stem + '.log'))
     shutil.rmtree(top)
     place, message = first_error(said)
@@ -196,7 +196,7 @@ def main():
                 failed += 1
     for crate in edits:
         shutil.rmtree(WORK / crate / '.right', ignore_errors=True)
-    if write:
+    if write and not wanted:
         PAGE.write_text(page(places))
     elif not wanted and (not PAGE.exists() or PAGE.read_text() != page(places)):
         print('docs/WRONG-PROGRAMS.md does not say what was found; tests/wrong_programs.py --write writes it')

@@ -196,10 +196,10 @@ p2b own s mask h = message 7 own (record { 0 = 0 }) (s .ballot) (record { 0 = 0 
 -- ---- an accepted frame
 
 -- P1A, FAST: "Takes the ballot, forgets the VERIFY table and that it signed."
-abbrev pub inBallot : State → ℕ → ℕ → State
+abbrev pub inBallot : State → Ballot → ℕ → State
 inBallot s ballot fast =
     record {
-      ballot = record { 0 = ballot };
+      ballot = ballot;
       fast = fast;
       signed = 0;
       held = s .held;
@@ -278,8 +278,8 @@ store r own s t h =
 
 -- "Stored if it extends the site's entry; accepted without effect if the entry is longer and extends it."
 abbrev pub accepted : Kind → Roster → ℕ → ViewRecord → State → Frame → Reply State
-accepted P1A r own v s m = accept (inBallot s (m .ballot .0) 0) (sends (p1b own s (m .ballot)))
-accepted FAST r own v s m = accept (inBallot s (m .ballot .0) 1) silent
+accepted P1A r own v s m = accept (inBallot s (m .ballot) 0) (sends (p1b own s (m .ballot)))
+accepted FAST r own v s m = accept (inBallot s (m .ballot) 1) silent
 accepted PROPOSE r own v s m = sign own v s (canonical (appended (heldOf s) (carried m)))
 accepted P2A r own v s m = sign own v s (carried m)
 accepted VERIFY r own v s m = cond (extends (carried m) (entryOf s m)) (store r own s (verifiedBy s m) (carried m)) (accept s silent)

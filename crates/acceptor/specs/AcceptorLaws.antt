@@ -124,8 +124,8 @@ rules-rise r own room v s line = refl
 
 -- what an accepted frame does: a ballot is opened, a history is signed, a VERIFY proves its history, is stored only, or has no effect
 pub data Effect (r : Roster) (own : ℕ) (v : ViewRecord) (s : State) (m : Frame) : Reply State → Type 0 where
-  opens-classic : Effect r own v s m (accept (inBallot s (m .ballot .0) 0) (sends (p1b own s (m .ballot))))
-  opens-fast : Effect r own v s m (accept (inBallot s (m .ballot .0) 1) silent)
+  opens-classic : Effect r own v s m (accept (inBallot s (m .ballot) 0) (sends (p1b own s (m .ballot))))
+  opens-fast : Effect r own v s m (accept (inBallot s (m .ballot) 1) silent)
   signs : (h : List ℕ) → Effect r own v s m (accept (signing own s h) (sends (verify own v s h)))
   proves-it : proves r s (verifiedBy s m) (carried m) ≡ true
       → Effect r own v s m
@@ -191,7 +191,7 @@ pub record Message (own : ℕ) (s : State) (m : Frame) : Type 0 where
 effect-sends : {r : Roster} {own : ℕ} {v : ViewRecord} {s : State} {m : Frame} {o : Reply State} → length (carried m) ≤ limit → Effect r own v s m o
     → {x : Frame} → o .sending ≡ sends x → Message own (o .state) x
 effect-sends {own = own} {s = s} {m = m} l opens-classic h =
-    subst (Message own (inBallot s (m .ballot .0) 0)) (sends-same h) (record { kind = inl refl; sender = refl; vote = λ e. absurd (omega arith) })
+    subst (Message own (inBallot s (m .ballot) 0)) (sends-same h) (record { kind = inl refl; sender = refl; vote = λ e. absurd (omega arith) })
 effect-sends l opens-fast h = absurd (silent-sends h)
 effect-sends {own = own} {s = s} l (signs g) h =
     subst (Message own (signing own s g)) (sends-same h) (record { kind = inr (inl refl); sender = refl; vote = λ e. absurd (omega arith) })

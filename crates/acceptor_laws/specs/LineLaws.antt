@@ -1,21 +1,25 @@
--- Each frame that an acceptor sends has a line, which is what it leaves in the buffer; and no step leaves a state that CONFIG refuses.
+-- Which kinds an acceptor takes; each frame that it sends has a line, which is what it leaves in the buffer; and no step leaves a state that CONFIG
+-- refuses.
 use mathlib.Core.Path.{_≡_, refl, sym, _∙_, subst}
-use mathlib.Core.Bool.{Bool, true, false, not, _&&_}
+use mathlib.Core.Logic.{⊎-elim}
+use mathlib.Core.Bool.{Bool, true, false, not, _&&_, _||_, Bool·beq}
 use mathlib.Core.List.{List, []}
 use Prim.Native.Nat.{ℕ, _^_, _≤_, _<_}
 use native.Mathlib.Nat.{lt-of-lt-of-le}
 use native.Mathlib.Omega.{arith}
-use borrow.Author.Tests.{le-leb, leb-false, ltb-false, not-true, not-false}
-use lib.Dec.{lit<}
+use borrow.Author.Tests.{le-leb, leb-false, ltb-false, not-true, not-false, ne-eqb}
+use lib.Dec.{eqb, lit<}
 use lib.ListN.{length}
 use lib.Pow.{pow-mono, pow-pos}
 use Rattle.roster.specs.declared.Roster.{Roster}
 use Rattle.roster.specs.declared.View.{View}
 use Rattle.roster.specs.declared.Ballot.{Ballot}
 use Rattle.roster.specs.RosterLaws.{valid-figures}
-use Rattle.roster.specs.Mask.{beyond}
-use Rattle.roster.specs.MaskLaws.{mask-lt, mask-inside, beyond-false}
-use Rattle.basics.specs.Bools.{and-left, and-right, or-left}
+use Rattle.roster.specs.Mask.{bit, beyond}
+use Rattle.roster.specs.MaskLaws.{bit-out, mask-lt, mask-inside, beyond-false}
+use Rattle.roster.specs.Sites.{allTo}
+use Rattle.roster.specs.SitesLaws.{all-each, lt-or-le}
+use Rattle.basics.specs.Bools.{and-left, and-right, or-left, beq-true}
 use Rattle.command.specs.Command.{wrong}
 use Rattle.command.specs.CommandLaws.{right-commands}
 use Rattle.history.specs.History.{canonical, extends, validHistory, improper}
@@ -82,6 +86,35 @@ use Rattle.acceptor.specs.Acceptor.{
   step,
 }
 use Rattle.acceptor.specs.AcceptorLaws.{Accepts, Stepped, refuses, accepting, stepped, carried-short}
+
+-- ---- the kinds that are taken: 1 P1A, 2 FAST, 4 PROPOSE, 5 P2A, 6 VERIFY
+
+abbrev isTaken : ℕ → Bool
+isTaken k = eqb k 1 || (eqb k 2 || (eqb k 4 || (eqb k 5 || eqb k 6)))
+
+only-five : allTo 7 (λ k. Bool·beq (bit taken k) (isTaken k)) ≡ true
+unfolding allTo bit
+only-five = refl
+
+-- they, and no other kind
+pub taken-is : (k : ℕ) → bit taken k ≡ (eqb k 1 || (eqb k 2 || (eqb k 4 || (eqb k 5 || eqb k 6))))
+taken-is k =
+    ⊎-elim (λ p. beq-true (bit taken k) (isTaken k) (all-each 7 (λ i. Bool·beq (bit taken i) (isTaken i)) only-five k p))
+    (λ (p : 7 ≤ k).
+    bit-out taken 7 k (lit< tt) p
+    ∙ sym
+    (rw (
+      ne-eqb k 1 (λ e. omega arith),
+      ne-eqb k 2 (λ e. omega arith),
+      ne-eqb k 4 (λ e. omega arith),
+      ne-eqb k 5 (λ e. omega arith),
+      ne-eqb k 6 (λ e. omega arith),
+    )))
+    (lt-or-le k 7)
+
+-- each goes by its name
+pub kind-of : (kindOf 1 ≡ P1A) × (kindOf 2 ≡ FAST) × (kindOf 4 ≡ PROPOSE) × (kindOf 5 ≡ P2A) × (kindOf 6 ≡ VERIFY)
+kind-of = (refl, refl, refl, refl, refl)
 
 -- ---- which frames FORM allows
 
@@ -179,8 +212,8 @@ appended-checked s line e v p l =
 -- what holds of a refusal, and of each reply to an accepted frame, holds of what a step replies
 module _ {r : Roster} {own room : ℕ} {v : ViewRecord} {s : State} {line : List ℕ} (P : Reply State → Type 0)
     (on-refusal : (e : Refusal) → P (refuse s e))
-    (on-classic : Accepts r own room v s line → P (accept (inBallot s (received line .ballot .0) 0) (sends (p1b own s (received line .ballot)))))
-    (on-fast : Accepts r own room v s line → P (accept (inBallot s (received line .ballot .0) 1) silent))
+    (on-classic : Accepts r own room v s line → P (accept (inBallot s (received line .ballot) 0) (sends (p1b own s (received line .ballot)))))
+    (on-fast : Accepts r own room v s line → P (accept (inBallot s (received line .ballot) 1) silent))
     (on-sign : Accepts r own room v s line → (h : List ℕ) → Checked s h → P (accept (signing own s h) (sends (verify own v s h))))
     (on-prove : Accepts r own room v s line → received line .sender < r .n → Checked s (carried (received line))
     → P
@@ -307,7 +340,7 @@ keeps-lendable r own room v s line c =
     let x = received line in
     let n = r .n in
     let member : Accepts r own room v s line → own < n = λ a. seated-is r own room (configured-is r own room v s (a .configured) .seat) .member in
-    let opened : (fast : ℕ) → Lendable n (inBallot s (x .ballot .0) fast) = λ fast.
+    let opened : (fast : ℕ) → Lendable n (inBallot s (x .ballot) fast) = λ fast.
     record { held-valid = c .held-valid; proven-valid = c .proven-valid; inside = c .inside; table-valid = valid-empty n } in
     replies (λ o. Lendable n (o .state)) (λ _. c) (λ a. opened 0) (λ a. opened 1)
     (λ a h k.
@@ -367,7 +400,7 @@ pub keeps-fits : (r : Roster) (own room : ℕ) (v : ViewRecord) (s : State) (lin
     → Fits own v (step r own room v s line .state)
 keeps-fits r own room v s line f =
     let x = received line in
-    let opened : (fast : ℕ) → Accepts r own room v s line → Fits own v (inBallot s (x .ballot .0) fast) = λ fast a.
+    let opened : (fast : ℕ) → Accepts r own room v s line → Fits own v (inBallot s (x .ballot) fast) = λ fast a.
     record {
       own-fits = f .own-fits;
       view-fits = f .view-fits;

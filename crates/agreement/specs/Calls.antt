@@ -10,7 +10,8 @@ use Rattle.acceptor.specs.declared.State.{State}
 use Rattle.acceptor.specs.Acceptor as acceptor
 use Rattle.viewchange.specs.ViewChange as viewchange
 
--- A call of a site's acceptor or view change, with the line handed in and the output buffer lent: "Lines are any bytes, output buffers any".
+-- A call of a site's acceptor or view change, with the line handed in and the output buffer lent: "Lines are any bytes, output buffers any". The host's
+-- own suspicion is a call of the view change with the line of that SUSPICION.
 pub data Call : Type 0 where
   to-acceptor : (line out : List ℕ) → Call
   to-view-change : (line out : List ℕ) → Call

@@ -130,7 +130,7 @@ premises-hold = premises-tested world 2 others refl
 pub learns : (holds world 0 4 ≡ A ∷ []) × (holds world 1 3 ≡ A ∷ [])
 unfolding
     four A B votes lie linesOf world
-    field proposer kind serial slot argument validArgument validCommand allValid sameRequest kindsTable kindsConflict conflict
+    field proposer kind serial slot argument validArgument validCommand allValid wrong sameRequest kindsTable kindsConflict conflict
     present repeated apart free least without ordered canonical equal isCanonical validHistory improper comesOff extends padded validStored
     appended merge answered merged
     validRoster quorum bit reaches beyond ones onesIn countTo allTo
@@ -138,7 +138,7 @@ unfolding
     judged
     digit isDigit valueOf allDigits byteOf numberFrom digitsOf spell numbers allFit total
     uses isKind zeroUnless unusedZero lineOf proper allZero fits writable framed frameOf isLine readingOf malformed
-    learner.config learner.sender learner.stale learner.proof learner.wrong learner.contradicts learner.withVote learner.supporters learner.claimed
+    learner.config learner.sender learner.stale learner.proof learner.contradicts learner.withVote learner.supporters learner.claimed
     learner.splits learner.overflows learner.after learner.step run
 learns = (refl, refl)
 

@@ -1,5 +1,4 @@
 -- Commands: the fields of the eight bytes, when a command is valid, and when two conflict.
--- Assumes nothing.
 use Prim.Native.Nat.{ℕ, _^_, _/_, _%_}
 use mathlib.Core.Bool.{Bool, true, false, not, _&&_, _||_}
 use mathlib.Core.List.{List, [], _∷_}

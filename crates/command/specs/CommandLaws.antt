@@ -1,5 +1,4 @@
 -- Laws of commands: the identity of a request, the rule of the table of kinds, and conflict.
--- Assumes nothing.
 use Prim.Native.Nat.{ℕ, zero, suc, _+_, _≤_, _<_}
 use native.Mathlib.Omega.{arith}
 use native.Mathlib.Numerals.{add-one}

@@ -1,2 +1,3 @@
+-- What the contracts of `command` cite, and the laws of it.
 pub mod Command
 pub mod CommandLaws

@@ -1,1 +1,2 @@
+-- What the contracts of `frame_bench` cite.
 pub mod Flat

@@ -1,3 +1,4 @@
+-- What the contracts of `history` cite, and the laws of it.
 pub mod History
 pub mod TakesLaws
 pub mod ExtensionLaws

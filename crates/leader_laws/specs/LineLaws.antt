@@ -1,20 +1,25 @@
--- Each frame that a leader sends has a line, which is what it leaves in the buffer; and no call leaves a state that CONFIG refuses.
-use mathlib.Core.Path.{_≡_, refl, subst}
-use mathlib.Core.Bool.{Bool, true, false, cond}
+-- Which kinds a leader takes; each frame that it sends has a line, which is what it leaves in the buffer; and no call leaves a state that CONFIG
+-- refuses.
+use mathlib.Core.Path.{_≡_, refl, sym, _∙_, subst}
+use mathlib.Core.Logic.{⊎-elim}
+use mathlib.Core.Bool.{Bool, true, false, cond, _||_, Bool·beq}
 use mathlib.Core.List.{List, []}
 use Prim.Native.Nat.{ℕ, _^_, _≤_, _<_}
 use native.Mathlib.Omega.{arith}
-use borrow.Author.Tests.{le-leb, ltb-false}
-use lib.Dec.{lit<}
+use borrow.Author.Tests.{le-leb, ltb-false, ne-eqb}
+use lib.Dec.{eqb, lit<}
 use lib.ListN.{length}
 use lib.Pow.{pow-pos}
 use Rattle.roster.specs.declared.Roster.{Roster}
 use Rattle.roster.specs.declared.View.{View}
 use Rattle.roster.specs.declared.Ballot.{Ballot}
-use Rattle.roster.specs.MaskLaws.{beyond-false}
+use Rattle.roster.specs.Mask.{bit}
+use Rattle.roster.specs.MaskLaws.{bit-out, beyond-false}
+use Rattle.roster.specs.Sites.{allTo}
+use Rattle.roster.specs.SitesLaws.{all-each, lt-or-le}
 use Rattle.command.specs.Command.{wrong}
 use Rattle.command.specs.CommandLaws.{right-commands}
-use Rattle.basics.specs.Bools.{or-left}
+use Rattle.basics.specs.Bools.{or-left, beq-true}
 use Rattle.history.specs.ValidLaws.{valid-nil, valid-parts}
 use Rattle.history.specs.Words.{limit, stored}
 use Rattle.history.specs.FitLaws.{EachFits, none, each-take, each-padded}
@@ -39,6 +44,10 @@ use Rattle.site.specs.ReplyLaws.{silent-sends, sends-same, Sent, sent-line}
 use Rattle.leader.specs.declared.State.{State}
 use Rattle.leader.specs.Leader.{
   fresh,
+  P1B,
+  PROPOSE,
+  LEADER,
+  kindOf,
   taken,
   received,
   pendingOf,
@@ -71,6 +80,28 @@ use Rattle.leader_laws.specs.LeaderLaws.{
   report-lendable,
   proposed-short,
 }
+
+-- ---- the kinds that are taken: 3 P1B, 4 PROPOSE, 10 LEADER
+
+abbrev isTaken : ℕ → Bool
+isTaken k = eqb k 3 || (eqb k 4 || eqb k 10)
+
+only-three : allTo 11 (λ k. Bool·beq (bit taken k) (isTaken k)) ≡ true
+unfolding allTo bit
+only-three = refl
+
+-- they, and no other kind
+pub taken-is : (k : ℕ) → bit taken k ≡ (eqb k 3 || (eqb k 4 || eqb k 10))
+taken-is k =
+    ⊎-elim (λ p. beq-true (bit taken k) (isTaken k) (all-each 11 (λ i. Bool·beq (bit taken i) (isTaken i)) only-three k p))
+    (λ (p : 11 ≤ k).
+    bit-out taken 11 k (lit< tt) p
+    ∙ sym (rw (ne-eqb k 3 (λ e. omega arith), ne-eqb k 4 (λ e. omega arith), ne-eqb k 10 (λ e. omega arith))))
+    (lt-or-le k 11)
+
+-- each goes by its name
+pub kind-of : (kindOf 3 ≡ P1B) × (kindOf 4 ≡ PROPOSE) × (kindOf 10 ≡ LEADER)
+kind-of = (refl, refl, refl)
 
 -- ---- which frames FORM allows
 

@@ -28,11 +28,6 @@ struct Stream {
     over: bool,
 }
 
-// The first n bytes, or all of them if there are fewer.
-fn first<'a>(bytes: &'a [u8], n: usize) -> &'a [u8] {
-    if n <= bytes.len() { &bytes[..n] } else { bytes }
-}
-
 // Puts `text` behind the first `used` bytes, and answers how many are in use then.
 fn put(out: &mut [u8], used: usize, text: &[u8]) -> usize {
     let mut end = used;
@@ -70,7 +65,7 @@ fn write(failed: bool, bytes: &[u8]) -> bool {
 fn flushed(o: Output, out: &[u8]) -> Output {
     Output {
         used: 0,
-        failed: write(o.failed, first(out, o.used)),
+        failed: write(o.failed, lines::first(out, o.used)),
     }
 }
 
@@ -91,7 +86,7 @@ fn answered(o: Output, number: u8, supporters: u8, out: &mut [u8]) -> Output {
     let text = lines::answer_text(number, supporters);
     let bytes: &[u8] = &text.bytes;
     Output {
-        used: put(out, ready.used, first(bytes, text.len)),
+        used: put(out, ready.used, lines::first(bytes, text.len)),
         failed: ready.failed,
     }
 }
@@ -110,12 +105,12 @@ fn chunk(s: Stream, bytes: &[u8], line: &mut [u8], out: &mut [u8]) -> Stream {
         len = lines::push(line, len, b);
         if b == LINE_FEED {
             if started {
-                let o = learner::step(roster, state, first(line, len));
+                let o = learner::step(roster, state, lines::first(line, len));
                 let answer = o.answer;
                 state = o.state;
                 output = answered(output, answer.number(), o.supporters, out);
             } else {
-                roster = lines::roster_of(first(line, len));
+                roster = lines::roster_of(lines::first(line, len));
                 started = true;
             }
             len = 0;
@@ -142,7 +137,7 @@ fn turn(mut s: Stream, input: &mut [u8], line: &mut [u8], out: &mut [u8]) -> Str
         return s;
     }
     let n = io::count(got, input);
-    chunk(s, first(input, n), line, out)
+    chunk(s, lines::first(input, n), line, out)
 }
 
 // The stream after the whole input. A proved loop has to end, and nothing says that the input does. So the loop counts its turns
@@ -167,7 +162,7 @@ fn finish(s: Stream, line: &[u8], out: &mut [u8]) {
     let len = s.len;
     if started {
         if 0 < len {
-            let o = learner::step(s.roster, s.state, first(line, len));
+            let o = learner::step(s.roster, s.state, lines::first(line, len));
             let answer = o.answer;
             flushed(answered(s.output, answer.number(), o.supporters, out), out);
         }

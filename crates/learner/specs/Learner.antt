@@ -7,7 +7,7 @@ use Rattle.roster.specs.declared.Roster.{Roster}
 use Rattle.roster.specs.Roster.{validRoster, quorum}
 use Rattle.roster.specs.Mask.{reaches, beyond}
 use Rattle.roster.specs.Sites.{countTo}
-use Rattle.command.specs.Command.{allValid}
+use Rattle.command.specs.Command.{wrong}
 use Rattle.history.specs.History.{extends, improper}
 use Rattle.history.specs.Words.{limit, commands, validStored, stored}
 use Rattle.merge.specs.declared.Merged.{Merged}
@@ -61,10 +61,6 @@ stale v = eqb (v .ballot .0) 0
 -- PROOF: a mask bit at N or above, or fewer than N-f ones
 unfoldable pub proof : Roster → Frame → Bool
 proof r v = beyond (v .mask) (r .n) || not (reaches (v .mask) (quorum r))
-
--- COMMAND: a command's fields are wrong
-unfoldable pub wrong : List ℕ → Bool
-wrong h = not (allValid h)
 
 -- CONTRADICTION: the sender's entry and this history, neither extends the other
 unfoldable pub contradicts : List ℕ → List ℕ → Bool

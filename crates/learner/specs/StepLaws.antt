@@ -17,7 +17,7 @@ use Rattle.roster.specs.Mask.{bit}
 use Rattle.roster.specs.MaskLaws.{bit-out}
 use Rattle.roster.specs.Sites.{countTo, allTo}
 use Rattle.roster.specs.SitesLaws.{all-each, lt-or-le}
-use Rattle.command.specs.Command.{allValid}
+use Rattle.command.specs.Command.{allValid, wrong}
 use Rattle.history.specs.History.{Extends, improper, extends, validHistory}
 use Rattle.history.specs.ExtensionLaws.{extends-refl, extends-sound}
 use Rattle.history.specs.ValidLaws.{ValidHistory, valid-parts, parts-valid, not-improper, proper-some}
@@ -47,7 +47,6 @@ use Rattle.learner.specs.Learner.{
   sender,
   stale,
   proof,
-  wrong,
   contradicts,
   withVote,
   supporters,

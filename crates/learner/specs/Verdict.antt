@@ -8,6 +8,7 @@ use lib.ListN.{take, replicate}
 use Rattle.roster.specs.declared.Roster.{Roster}
 use Rattle.roster.specs.Roster.{quorum}
 use Rattle.roster.specs.Sites.{countTo}
+use Rattle.command.specs.Command.{wrong}
 use Rattle.history.specs.declared.History.{History as Stored}
 use Rattle.history.specs.History.{extends, improper}
 use Rattle.history.specs.Words.{limit, historyOf}
@@ -24,7 +25,7 @@ use Rattle.learner.specs.declared.State.{State}
 use Rattle.learner.specs.declared.Verdict.{Verdict}
 use Rattle.learner.specs.declared.Outcome.{Outcome}
 use Rattle.learner.specs.declared.Answered.{Answered}
-use Rattle.learner.specs.Learner.{config, sender, stale, proof, wrong, contradicts, arrived}
+use Rattle.learner.specs.Learner.{config, sender, stale, proof, contradicts, arrived}
 
 -- a state of these parts: the entries' words and counts, and what is learned
 abbrev pub stateOf : List ℕ → List ℕ → List ℕ → ℕ → State

@@ -11,7 +11,7 @@ use Rattle.basics.specs.Bools.{and-left, and-right}
 use Rattle.roster.specs.declared.Roster.{Roster}
 use Rattle.roster.specs.Roster.{quorum}
 use Rattle.roster.specs.Sites.{countTo}
-use Rattle.command.specs.Command.{allValid}
+use Rattle.command.specs.Command.{allValid, wrong}
 use Rattle.history.specs.History.{Compatible, Least, improper, extends}
 use Rattle.history.specs.ValidLaws.{not-improper, proper-some}
 use Rattle.history.specs.Words.{limit, commands}
@@ -32,7 +32,7 @@ use Rattle.frame.specs.Format.{readingOf, isLine, frameOf, malformed}
 use Rattle.frame.specs.FormatLaws.{found-line, found-taken, found-frame}
 use Rattle.learner.specs.declared.State.{State}
 use Rattle.learner.specs.declared.Outcome.{Outcome}
-use Rattle.learner.specs.Learner.{taken, form, vote, arrived, sender, wrong, withVote, supporters, claimed, mergeOf, splits, overflows, after, rules, step}
+use Rattle.learner.specs.Learner.{taken, form, vote, arrived, sender, withVote, supporters, claimed, mergeOf, splits, overflows, after, rules, step}
 use Rattle.learner.specs.StepLaws.{Accepts, Stepped, refuses, accepting, stepped, Sound, Arrived, taken-is, vote-count, vote-stored, vote-stays}
 
 -- ---- a vote that is heard

@@ -2,7 +2,7 @@
 ghost use mathlib.Core.Path.{_≡_};
 ghost use mathlib.Core.Bool.{true};
 ghost use Prim.Native.Nat.{_+_, _≤_};
-ghost use lib.ListN.{length};
+ghost use lib.ListN.{length, take};
 ghost use lib.Seq.{sets};
 ghost use Rattle.frame.specs.Hex as hex;
 ghost use Rattle.lines.specs.Lines as spec;
@@ -19,6 +19,13 @@ const ZERO: u8 = 48;
 pub struct Text {
     pub len: usize,
     pub bytes: [u8; 8],
+}
+
+// The first n bytes, or all of them if there are fewer.
+pub fn first<'a>(bytes: &'a [u8], n: usize) -> &'a [u8]
+    ensures { λ r. ⌜ now r ≡ take n (now (bytes .entry)) ⌝ }
+{
+    if n <= bytes.len() { &bytes[..n] } else { bytes }
 }
 
 // Whether a character is a lower-case hex digit.

@@ -1,3 +1,4 @@
+-- What the contracts of `merge` cite, and the laws of it.
 pub mod Merge
 pub mod Appending
 pub mod Merged

@@ -1,2 +1,3 @@
+-- The table of document 01's sample histories and votes, and why it holds.
 pub mod Samples
 pub mod SamplesLaws

@@ -10,7 +10,7 @@ use Rattle.basics.specs.Bools.{and-left, and-right}
 use Rattle.roster.specs.Sites.{countTo, allTo}
 use Rattle.roster.specs.Mask.{bit, reaches, beyond}
 use Rattle.roster.specs.Roster.{validRoster, quorum}
-use Rattle.command.specs.Command.{validArgument, validCommand, allValid, field, proposer, kind, serial, slot, argument, sameRequest, kindsTable, kindsConflict, conflict}
+use Rattle.command.specs.Command.{validArgument, validCommand, allValid, wrong, field, proposer, kind, serial, slot, argument, sameRequest, kindsTable, kindsConflict, conflict}
 use Rattle.history.specs.History.{present, repeated, apart, free, least, without, ordered, canonical, equal, isCanonical, validHistory, improper, comesOff, extends}
 use Rattle.history.specs.Words.{commands, padded, validStored}
 use Rattle.history.specs.ExtensionLaws.{extends-sound, extends-refuted}
@@ -24,7 +24,7 @@ use Rattle.refusal.specs.Rules.{judged}
 use Rattle.frame.specs.Hex.{digit, isDigit, valueOf, allDigits, byteOf, numberFrom, digitsOf, spell, numbers, allFit, total}
 use Rattle.frame.specs.Kinds.{uses, isKind, zeroUnless, unusedZero}
 use Rattle.frame.specs.Format.{lineOf, proper, allZero, fits, writable, framed, frameOf, isLine, readingOf, malformed}
-use Rattle.learner.specs.Learner.{fresh, config, sender, stale, proof, wrong, contradicts, withVote, supporters, claimed, splits, overflows, after, step}
+use Rattle.learner.specs.Learner.{fresh, config, sender, stale, proof, contradicts, withVote, supporters, claimed, splits, overflows, after, step}
 use Rattle.learner.specs.Run.{run, outcomes}
 use Rattle.samples.specs.Samples.{Sample, order, extension, no-extension, merged, split, votes, four, answers, Holds, samples, AllHold, end, line}
 

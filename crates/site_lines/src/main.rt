@@ -34,11 +34,6 @@ struct Stream {
     over: bool,
 }
 
-// The first n bytes, or all of them if there are fewer.
-fn first<'a>(bytes: &'a [u8], n: usize) -> &'a [u8] {
-    if n <= bytes.len() { &bytes[..n] } else { bytes }
-}
-
 // The bytes after the first.
 fn rest<'a>(bytes: &'a [u8]) -> &'a [u8] {
     if 1 <= bytes.len() { &bytes[1..] } else { bytes }
@@ -95,7 +90,7 @@ fn for_view_change(line: &[u8]) -> bool {
 fn change(s: Site, line: &[u8], out: &mut [u8]) -> Site {
     let o = viewchange::step(s.roster, s.own, s.views, line, out);
     let answer = o.answer;
-    say(answer.number(), first(out, o.sent));
+    say(answer.number(), lines::first(out, o.sent));
     let roster = s.roster;
     let views = o.views;
     let state = s.state;
@@ -181,7 +176,7 @@ fn step_acceptor(s: Site, line: &[u8], out: &mut [u8]) -> acceptor::Outcome {
 fn accept(s: Site, line: &[u8], out: &mut [u8]) -> Site {
     let o = step_acceptor(s, line, out);
     let answer = o.answer;
-    say(answer.number(), first(out, o.sent));
+    say(answer.number(), lines::first(out, o.sent));
     let roster = s.roster;
     let views = s.views;
     let state = o.state;
@@ -198,7 +193,7 @@ fn accept(s: Site, line: &[u8], out: &mut [u8]) -> Site {
 // The site after a call of its leader.
 fn led(s: Site, o: leader::Outcome, out: &[u8]) -> Site {
     let answer = o.answer;
-    say(answer.number(), first(out, o.sent));
+    say(answer.number(), lines::first(out, o.sent));
     let roster = s.roster;
     let views = s.views;
     let state = s.state;
@@ -399,7 +394,7 @@ fn chunk(s: Stream, bytes: &[u8], line: &mut [u8], out: &mut [u8]) -> Stream {
         i += 1;
         len = lines::push(line, len, b);
         if b == LINE_FEED {
-            site = hear(site, first(line, len), out);
+            site = hear(site, lines::first(line, len), out);
             len = 0;
         }
     }
@@ -418,7 +413,7 @@ fn turn(mut s: Stream, input: &mut [u8], line: &mut [u8], out: &mut [u8]) -> Str
         return s;
     }
     let n = io::count(got, input);
-    chunk(s, first(input, n), line, out)
+    chunk(s, lines::first(input, n), line, out)
 }
 
 // The stream after the whole input. A proved loop has to end, and nothing says that the input does. So the loop counts its turns
@@ -440,7 +435,7 @@ fn run(s: Stream, input: &mut [u8], line: &mut [u8], out: &mut [u8]) -> Stream {
 // Hands in the bytes after the last line feed, if there are any; they are no line.
 fn finish(s: Stream, line: &[u8], out: &mut [u8]) {
     let site = s.site;
-    hear(site, first(line, s.len), out);
+    hear(site, lines::first(line, s.len), out);
 }
 
 fn main() {

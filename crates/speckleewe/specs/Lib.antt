@@ -1,1 +1,2 @@
+-- What the contracts of `speckleewe` cite.
 pub mod Outcomes

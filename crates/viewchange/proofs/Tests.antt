@@ -52,7 +52,7 @@ use Rattle.viewchange.specs.ViewChange.{
 -- ---- a SUSPICION: s are the suspicions with the sender's, k is f+1, and b tells whether the former reach the latter
 
 module _ (r : Roster) (own : ℕ) (v : ViewRecord) (site : ℕ) (view : View) where
-  pub suspect-stale : eqb (view .0) (v .view .0) ≡ false → refuse v Stale ≡ heard r own v (notice suspicionKind site (view .0) 0)
+  pub suspect-stale : eqb (view .0) (v .view .0) ≡ false → refuse v Stale ≡ heard r own v (notice suspicionKind site view 0)
   unfolding judged stale isSuspicion notice
   suspect-stale p = rw p
 
@@ -60,19 +60,19 @@ module _ (r : Roster) (own : ℕ) (v : ViewRecord) (site : ℕ) (view : View) wh
       (p : eqb (view .0) (v .view .0) ≡ true) where
     pub suspect-keep : (b && eqb (v .target .0) 0) ≡ false
         → accept (record { view = v .view; suspicions = s; target = v .target; changes = v .changes }) silent
-        ≡ heard r own v (notice suspicionKind site (view .0) 0)
+        ≡ heard r own v (notice suspicionKind site view 0)
     unfolding judged stale proof full sets suspected isSuspicion notice accepted suspicion
     suspect-keep q = rw (p, ← e, ← f, ← g, q)
 
     pub suspect-full : (b && eqb (v .target .0) 0) ≡ true → leb lastView (v .view .0) ≡ true
-        → refuse v Full ≡ heard r own v (notice suspicionKind site (view .0) 0)
+        → refuse v Full ≡ heard r own v (notice suspicionKind site view 0)
     unfolding judged stale proof full sets suspected isSuspicion notice accepted suspicion
     suspect-full q x = rw (p, ← e, ← f, ← g, q, x)
 
     pub suspect-sets : (b && eqb (v .target .0) 0) ≡ true → leb lastView (v .view .0) ≡ false → (a : ℕ) → a ≡ withSite 0 own
         → accept (record { view = v .view; suspicions = s; target = record { 0 = v .view .0 + 1 }; changes = a })
-        (sends (notice changeKind own (v .view .0 + 1) s))
-        ≡ heard r own v (notice suspicionKind site (view .0) 0)
+        (sends (notice changeKind own (record { 0 = v .view .0 + 1 }) s))
+        ≡ heard r own v (notice suspicionKind site view 0)
     unfolding judged stale proof full sets suspected isSuspicion notice accepted suspicion
     suspect-sets q x a o = rw (p, ← e, ← f, ← g, q, x, o)
 
@@ -80,26 +80,26 @@ module _ (r : Roster) (own : ℕ) (v : ViewRecord) (site : ℕ) (view : View) wh
 
 module _ (r : Roster) (own : ℕ) (v : ViewRecord) (site : ℕ) (view : View) (mask : ℕ) where
   pub change-stale : (leb (view .0) (v .view .0) || ltb (view .0) (v .target .0)) ≡ true
-      → refuse v Stale ≡ heard r own v (notice changeKind site (view .0) mask)
+      → refuse v Stale ≡ heard r own v (notice changeKind site view mask)
   unfolding judged stale isSuspicion notice
   change-stale p = rw p
 
   -- k is f+1, b tells whether a bit of the mask is at N or above, and d whether its ones reach f+1
   module _ (k : ℕ) (b d : Bool) (e : b ≡ beyond mask (r .n)) (f : k ≡ weakCertificate r) (g : d ≡ reaches mask k)
       (p : (leb (view .0) (v .view .0) || ltb (view .0) (v .target .0)) ≡ false) where
-    pub change-proof : (b || not d) ≡ true → refuse v Proof ≡ heard r own v (notice changeKind site (view .0) mask)
+    pub change-proof : (b || not d) ≡ true → refuse v Proof ≡ heard r own v (notice changeKind site view mask)
     unfolding judged stale proof isSuspicion notice
     change-proof q = rw (p, ← e, ← f, ← g, q)
 
     pub change-agree : (b || not d) ≡ false
-        → accepted r own v (notice changeKind site (view .0) mask) ≡ heard r own v (notice changeKind site (view .0) mask)
+        → accepted r own v (notice changeKind site view mask) ≡ heard r own v (notice changeKind site view mask)
     unfolding judged stale proof full isSuspicion notice
     change-agree q = rw (p, ← e, ← f, ← g, q)
 
   pub agree-restart : eqb (view .0) (v .target .0) ≡ false → (a b : ℕ) → a ≡ withSite 0 site → b ≡ withSite a own
       → accept (record { view = v .view; suspicions = v .suspicions; target = view; changes = b })
-      (sends (notice changeKind own (view .0) mask))
-      ≡ accepted r own v (notice changeKind site (view .0) mask)
+      (sends (notice changeKind own view mask))
+      ≡ accepted r own v (notice changeKind site view mask)
   unfolding accepted isSuspicion notice restart
   agree-restart p a b e f = rw (p, f, e)
 
@@ -108,25 +108,25 @@ module _ (r : Roster) (own : ℕ) (v : ViewRecord) (site : ℕ) (view : View) (m
       (p : eqb (view .0) (v .target .0) ≡ true) where
     pub agree-change : b ≡ true
         → accept (record { view = v .target; suspicions = 0; target = record { 0 = 0 }; changes = 0 })
-        (sends (notice leaderKind own (v .target .0) s))
-        ≡ accepted r own v (notice changeKind site (view .0) mask)
+        (sends (notice leaderKind own (v .target) s))
+        ≡ accepted r own v (notice changeKind site view mask)
     unfolding accepted isSuspicion notice join changed
     agree-change q = rw (p, ← e, ← f, ← g, q)
 
     pub agree-keep : b ≡ false
         → accept (record { view = v .view; suspicions = v .suspicions; target = v .target; changes = s }) silent
-        ≡ accepted r own v (notice changeKind site (view .0) mask)
+        ≡ accepted r own v (notice changeKind site view mask)
     unfolding accepted isSuspicion notice join changed
     agree-keep q = rw (p, ← e, ← f, ← g, q)
 
 -- ---- a frame goes by its kind, sender, view and mask
 
 module _ (r : Roster) (own : ℕ) (v : ViewRecord) (m : Frame) where
-  pub heard-suspicion : eqb (m .kind) suspicionKind ≡ true → heard r own v (notice suspicionKind (m .sender) (m .view .0) 0) ≡ heard r own v m
+  pub heard-suspicion : eqb (m .kind) suspicionKind ≡ true → heard r own v (notice suspicionKind (m .sender) (m .view) 0) ≡ heard r own v m
   unfolding judged stale proof full sets suspected isSuspicion notice accepted suspicion
   heard-suspicion p = rw p
 
-  pub heard-change : eqb (m .kind) suspicionKind ≡ false → heard r own v (notice changeKind (m .sender) (m .view .0) (m .mask)) ≡ heard r own v m
+  pub heard-change : eqb (m .kind) suspicionKind ≡ false → heard r own v (notice changeKind (m .sender) (m .view) (m .mask)) ≡ heard r own v m
   unfolding judged stale proof full isSuspicion notice accepted restart join changed
   heard-change p = rw p
 
@@ -160,14 +160,14 @@ module _ (r : Roster) (own room : ℕ) (v : ViewRecord) (line : List ℕ) (c : c
 -- ---- the host's own suspicion is a line that is read, from one of the sites
 
 pub step-own : (r : Roster) (own room : ℕ) (v : ViewRecord) (view : View) → config r own room v ≡ false → own < 256 → view .0 < 2 ^ 32
-    → heard r own v (notice suspicionKind own (view .0) 0) ≡ step r own room v (ownSuspicion own view)
+    → heard r own v (notice suspicionKind own view 0) ≡ step r own room v (ownSuspicion own view)
 unfolding notice
 step-own r own room v view c a b =
-    step-heard r own room v (ownSuspicion own view) c (record { found = true; frame = notice suspicionKind own (view .0) 0 })
+    step-heard r own room v (ownSuspicion own view) c (record { found = true; frame = notice suspicionKind own view 0 })
     (sym (own-read own view a b)) refl (lt-leb (r .n) own (configured-is r own room v c .seat .member))
 
 -- a frame with no commands
-pub bare-notice : (kind own : ℕ) (view : View) (mask : ℕ) → message kind own view (record { 0 = 0 }) (record { 0 = 0 }) mask [] [] ≡ notice kind own (view .0) mask
+pub bare-notice : (kind own : ℕ) (view : View) (mask : ℕ) → message kind own view (record { 0 = 0 }) (record { 0 = 0 }) mask [] [] ≡ notice kind own view mask
 unfolding notice padded
 bare-notice kind own view mask = refl
 
@@ -178,7 +178,7 @@ module _ (own : ℕ) (out : List ℕ) (d : Decision) where
   pub nothing-sent : d .sends ≡ false → (0 ≡ lengthSent (replied own d .sending) out) × (out ≡ buffer (replied own d .sending) out)
   nothing-sent p = (rw p, rw p)
 
-  pub frame-sent : d .sends ≡ true → (m : Frame) → m ≡ notice (d .kind) own (d .view .0) (d .mask)
+  pub frame-sent : d .sends ≡ true → (m : Frame) → m ≡ notice (d .kind) own (d .view) (d .mask)
       → (k : ℕ) (l : List ℕ) → (k ≡ lengthSent (sendsIf true m) out) × (l ≡ buffer (sendsIf true m) out)
       → (k ≡ lengthSent (replied own d .sending) out) × (l ≡ buffer (replied own d .sending) out)
   frame-sent e m f k l p = (p .0 ∙ rw (e, f), p .1 ∙ rw (e, f))

@@ -12,7 +12,7 @@ use Rattle.viewchange.specs.ViewChange.{notice}
 -- the reply of site `own` that a decision stands for
 abbrev pub replied : ℕ → Decision → Reply ViewRecord
 replied own d =
-    record { answer = d .answer; state = d .views; sending = sendsIf (d .sends) (notice (d .kind) own (d .view .0) (d .mask)) }
+    record { answer = d .answer; state = d .views; sending = sendsIf (d .sends) (notice (d .kind) own (d .view) (d .mask)) }
 
 -- a refusal; an accepted frame that sends nothing; and one that sends
 abbrev pub refusing : ViewRecord → Refusal → Decision

@@ -80,12 +80,12 @@ full r v m = isSuspicion m && (sets r v m && leb lastView (v .view .0))
 -- ---- an accepted frame
 
 -- a frame of this kind from `own` for a view, with a mask and nothing else: a VIEWCHANGE or LEADER
-unfoldable pub notice : ℕ → ℕ → ℕ → ℕ → Frame
+unfoldable pub notice : ℕ → ℕ → View → ℕ → Frame
 notice kind own view mask =
     record {
       kind = kind;
       sender = own;
-      view = record { 0 = view };
+      view = view;
       ballot = record { 0 = 0 };
       proven = record { 0 = 0 };
       mask = mask;
@@ -104,7 +104,7 @@ targeted own v m = record { view = v .view; suspicions = suspected v m; target =
 -- a SUSPICION: "At f+1 ones or more, if no target is set (0), target is view+1 with its own bit, and VIEWCHANGE goes out with the suspicion mask."
 unfoldable pub suspicion : Roster → ℕ → ViewRecord → Frame → Reply ViewRecord
 suspicion r own v m =
-    cond (sets r v m) (accept (targeted own v m) (sends (notice changeKind own (v .view .0 + 1) (suspected v m)))) (accept (noted v m) silent)
+    cond (sets r v m) (accept (targeted own v m) (sends (notice changeKind own (record { 0 = v .view .0 + 1 }) (suspected v m)))) (accept (noted v m) silent)
 
 -- the target mask with the sender's
 unfoldable pub changed : ViewRecord → Frame → ℕ
@@ -123,13 +123,13 @@ moved v = record { view = v .target; suspicions = 0; target = record { 0 = 0 }; 
 
 -- a VIEWCHANGE for a new target: "A new target restarts the mask with sender and itself and sends its own VIEWCHANGE with the frame's mask"
 unfoldable pub restart : ℕ → ViewRecord → Frame → Reply ViewRecord
-restart own v m = accept (restarted own v m) (sends (notice changeKind own (m .view .0) (m .mask)))
+restart own v m = accept (restarted own v m) (sends (notice changeKind own (m .view) (m .mask)))
 
 -- for the target that is set: "an equal target adds the sender. At N-f ones or more the view becomes the target, suspicions and target clear,
 -- and LEADER goes to view mod N, with the target mask."
 unfoldable pub join : Roster → ℕ → ViewRecord → Frame → Reply ViewRecord
 join r own v m =
-    cond (reaches (changed v m) (quorum r)) (accept (moved v) (sends (notice leaderKind own (v .target .0) (changed v m))))
+    cond (reaches (changed v m) (quorum r)) (accept (moved v) (sends (notice leaderKind own (v .target) (changed v m))))
     (accept (joined v m) silent)
 
 -- what a frame that no check refuses gives
@@ -158,7 +158,7 @@ step r own room v line = judged (refuse v) (accepted r own v (received line)) (r
 
 -- "The host's own suspicion enters as a SUSPICION from itself": the line of that frame, of a view
 abbrev pub ownSuspicion : ℕ → View → List ℕ
-ownSuspicion own view = lineOf (notice suspicionKind own (view .0) 0)
+ownSuspicion own view = lineOf (notice suspicionKind own view 0)
 
 -- what it returns: the answer, how many bytes of the buffer are to be sent, and the record
 abbrev pub outcome : Reply ViewRecord → List ℕ → Outcome

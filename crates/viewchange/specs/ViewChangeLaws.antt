@@ -145,13 +145,13 @@ received-change line e p =
 pub data Effect (r : Roster) (own : ℕ) (v : ViewRecord) (m : Frame) : Reply ViewRecord → Type 0 where
   notes : isSuspicion m ≡ true → sets r v m ≡ false → Effect r own v m (accept (noted v m) silent)
   targets : isSuspicion m ≡ true → sets r v m ≡ true
-      → Effect r own v m (accept (targeted own v m) (sends (notice changeKind own (v .view .0 + 1) (suspected v m))))
+      → Effect r own v m (accept (targeted own v m) (sends (notice changeKind own (record { 0 = v .view .0 + 1 }) (suspected v m))))
   restarts : isSuspicion m ≡ false → eqb (m .view .0) (v .target .0) ≡ false
-      → Effect r own v m (accept (restarted own v m) (sends (notice changeKind own (m .view .0) (m .mask))))
+      → Effect r own v m (accept (restarted own v m) (sends (notice changeKind own (m .view) (m .mask))))
   joins : isSuspicion m ≡ false → eqb (m .view .0) (v .target .0) ≡ true → reaches (changed v m) (quorum r) ≡ false
       → Effect r own v m (accept (joined v m) silent)
   moves : isSuspicion m ≡ false → eqb (m .view .0) (v .target .0) ≡ true → reaches (changed v m) (quorum r) ≡ true
-      → Effect r own v m (accept (moved v) (sends (notice leaderKind own (v .target .0) (changed v m))))
+      → Effect r own v m (accept (moved v) (sends (notice leaderKind own (v .target) (changed v m))))
 
 pub effect : (r : Roster) (own : ℕ) (v : ViewRecord) (m : Frame) → Effect r own v m (accepted r own v m)
 unfolding accepted suspicion restart join
@@ -170,9 +170,9 @@ effect r own v m = go (isSuspicion m) (sets r v m) (eqb (m .view .0) (v .target 
 -- what holds of the three frames that an accepted frame may send holds of each frame that a step sends
 module _ {r : Roster} {own room : ℕ} {v : ViewRecord} {line : List ℕ} (P : Frame → Type 0)
     (on-target : Accepts r own room v line → isSuspicion (received line) ≡ true → sets r v (received line) ≡ true
-    → P (notice changeKind own (v .view .0 + 1) (suspected v (received line))))
-    (on-restart : Accepts r own room v line → P (notice changeKind own (received line .view .0) (received line .mask)))
-    (on-move : Accepts r own room v line → P (notice leaderKind own (v .target .0) (changed v (received line)))) where
+    → P (notice changeKind own (record { 0 = v .view .0 + 1 }) (suspected v (received line))))
+    (on-restart : Accepts r own room v line → P (notice changeKind own (received line .view) (received line .mask)))
+    (on-move : Accepts r own room v line → P (notice leaderKind own (v .target) (changed v (received line)))) where
   effect-sends : Accepts r own room v line → {o : Reply ViewRecord} → Effect r own v (received line) o → {m : Frame} → o .sending ≡ sends m → P m
   effect-sends a (notes p q) h = absurd (silent-sends h)
   effect-sends a (targets p q) h = subst P (sends-same h) (on-target a p q)
@@ -189,11 +189,11 @@ pub record Notice (own : ℕ) (m : Frame) : Type 0 where
   pub kind : (m .kind ≡ changeKind) ⊎ (m .kind ≡ leaderKind)
   pub sender : m .sender ≡ own
 
-notice-change : (own view mask : ℕ) → Notice own (notice changeKind own view mask)
+notice-change : (own : ℕ) (view : View) (mask : ℕ) → Notice own (notice changeKind own view mask)
 unfolding notice
 notice-change own view mask = record { kind = inl refl; sender = refl }
 
-notice-leader : (own view mask : ℕ) → Notice own (notice leaderKind own view mask)
+notice-leader : (own : ℕ) (view : View) (mask : ℕ) → Notice own (notice leaderKind own view mask)
 unfolding notice
 notice-leader own view mask = record { kind = inr refl; sender = refl }
 
@@ -211,19 +211,19 @@ pub record Fits (own : ℕ) (v : ViewRecord) : Type 0 where
   pub changes-fit : v .changes < 2 ^ 16
 
 -- a notice of such numbers has a line
-module _ (own view mask : ℕ) (a : own < 256) (b : view < 2 ^ 32) (c : mask < 2 ^ 16) where
+module _ (own : ℕ) (view : View) (mask : ℕ) (a : own < 256) (b : view .0 < 2 ^ 32) (c : mask < 2 ^ 16) where
   change-writable : writable (notice changeKind own view mask) ≡ true
   unfolding notice writable proper isKind uses unusedZero zeroUnless allZero fits allFit
-  change-writable = rw (lt-ltb own 256 a, lt-ltb view (2 ^ 32) b, lt-ltb mask (2 ^ 16) c)
+  change-writable = rw (lt-ltb own 256 a, lt-ltb (view .0) (2 ^ 32) b, lt-ltb mask (2 ^ 16) c)
 
   leader-writable : writable (notice leaderKind own view mask) ≡ true
   unfolding notice writable proper isKind uses unusedZero zeroUnless allZero fits allFit
-  leader-writable = rw (lt-ltb own 256 a, lt-ltb view (2 ^ 32) b, lt-ltb mask (2 ^ 16) c)
+  leader-writable = rw (lt-ltb own 256 a, lt-ltb (view .0) (2 ^ 32) b, lt-ltb mask (2 ^ 16) c)
 
 -- so has the host's own suspicion, and its line is read as that SUSPICION
 module _ (own : ℕ) (view : View) (a : own < 256) (b : view .0 < 2 ^ 32) where
   abbrev own-frame : Frame
-  own-frame = notice suspicionKind own (view .0) 0
+  own-frame = notice suspicionKind own view 0
 
   own-writable : writable own-frame ≡ true
   unfolding notice writable proper isKind uses unusedZero zeroUnless allZero fits allFit

@@ -84,7 +84,7 @@ fn tell(v: ViewRecord, kind: u8, view: View, mask: u16) -> Decision
 
 // The answer to a SUSPICION from a site: the view, and the target that f+1 suspicions set.
 fn suspect(r: Roster, own: u8, v: ViewRecord, site: u8, view: View) -> Decision
-    ensures { λ d. ⌜ decision.replied own d ≡ spec.heard r own v (spec.notice spec.suspicionKind site (view .0) 0) ⌝ }
+    ensures { λ d. ⌜ decision.replied own d ≡ spec.heard r own v (spec.notice spec.suspicionKind site view 0) ⌝ }
 {
     let present = v.view;
     let current = view.0 == present.0;
@@ -119,7 +119,7 @@ fn suspect(r: Roster, own: u8, v: ViewRecord, site: u8, view: View) -> Decision
 
 // The answer to a proven VIEWCHANGE from a site: a new target, or one more site for the target that is set.
 fn agree(r: Roster, own: u8, v: ViewRecord, site: u8, view: View, mask: u16) -> Decision
-    ensures { λ d. ⌜ decision.replied own d ≡ spec.accepted r own v (spec.notice spec.changeKind site (view .0) mask) ⌝ }
+    ensures { λ d. ⌜ decision.replied own d ≡ spec.accepted r own v (spec.notice spec.changeKind site view mask) ⌝ }
 {
     let present = v.view;
     let target = v.target;
@@ -154,7 +154,7 @@ fn agree(r: Roster, own: u8, v: ViewRecord, site: u8, view: View, mask: u16) -> 
 
 // The answer to a VIEWCHANGE from a site: its view and its proof.
 fn change(r: Roster, own: u8, v: ViewRecord, site: u8, view: View, mask: u16) -> Decision
-    ensures { λ d. ⌜ decision.replied own d ≡ spec.heard r own v (spec.notice spec.changeKind site (view .0) mask) ⌝ }
+    ensures { λ d. ⌜ decision.replied own d ≡ spec.heard r own v (spec.notice spec.changeKind site view mask) ⌝ }
 {
     let present = v.view;
     let target = v.target;

@@ -1,2 +1,3 @@
+-- What the contracts of `words` cite, and the laws of it.
 pub mod Words
 pub mod WordsLaws

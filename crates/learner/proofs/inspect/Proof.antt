@@ -3,8 +3,8 @@
 use mathlib.Core.Path.{sym, _∙_}
 use borrow.Author.Needs.{needs}
 use borrow.Author.Tests.{not-true, not-false}
+use Rattle.command.specs.Command.{wrong}
 use Rattle.refusal.specs.Rules.{judged}
-use Rattle.learner.specs.Learner.{wrong}
 use Rattle.learner.proofs.Tests.{refused}
 use Rattle.learner.proofs.inspect.Statement.{statement}
 use Rattle.learner.proofs.inspect.Tie as tie
