@@ -1,8 +1,8 @@
 -- A judgement is either refused by some rule, or accepted with every test false.
 use mathlib.Core.Path.{_≡_, refl, _∙_}
-use mathlib.Core.Bool.{Bool, true, false, _&&_}
+use mathlib.Core.Bool.{Bool, true, false, cond, _&&_}
 use Prim.Native.Nat.{ℕ}
-use lib.Dec.{ltb}
+use lib.Dec.{ltb, eqb}
 use Rattle.refusal.specs.Refusal.{number}
 use mathlib.Core.List.{List, [], _∷_}
 use Rattle.refusal.specs.declared.Refusal.{Refusal}
@@ -40,3 +40,20 @@ judgement {A} refuse accepted (test gives r ∷ rules) = go test refl (judgement
 unfoldable pub rising : ℕ → List Rule → Bool
 rising n [] = true
 rising n (test gives r ∷ rules) = ltb n (number r) && rising (number r) rules
+
+-- ---- by name
+
+-- the test of a refusal in a list of rules: that of its first rule, and false where it has none
+unfoldable pub testOf : Refusal → List Rule → Bool
+testOf e [] = false
+testOf e (test gives r ∷ rules) = cond (eqb (number e) (number r)) test (testOf e rules)
+
+-- where no rule holds, the test of each refusal is false
+pub no-test : {rules : List Rule} → NoneHolds rules → (e : Refusal) → testOf e rules ≡ false
+unfolding testOf
+no-test passed e = refl
+no-test (pass {test} {r} {rules} f n) e = go (eqb (number e) (number r)) (no-test n e)
+  where
+    go : (b : Bool) → testOf e rules ≡ false → cond b test (testOf e rules) ≡ false
+    go true g = f
+    go false g = g

@@ -1,5 +1,6 @@
 -- The refusals and what a step answers, with their numbers.
 use Prim.Native.Nat.{ℕ}
+use mathlib.Core.Bool.{Bool, true, false}
 use Rattle.refusal.specs.declared.Refusal.{Refusal}
 use Rattle.refusal.specs.declared.Refusal.the-variants.{
   Config,
@@ -39,3 +40,7 @@ number Full = 13
 abbrev pub answerNumber : Answer → ℕ
 answerNumber Accepted = 0
 answerNumber (Refused e) = number e
+
+abbrev pub isRefused : Answer → Bool
+isRefused Accepted = false
+isRefused (Refused e) = true

@@ -2,6 +2,8 @@
 use mathlib.Core.Bool.{Bool, cond}
 use mathlib.Core.List.{List, [], _∷_}
 use Rattle.refusal.specs.declared.Refusal.{Refusal}
+use Rattle.refusal.specs.declared.Answer.{Answer}
+use Rattle.refusal.specs.declared.Answer.the-variants.{Accepted, Refused}
 
 infix 68 _gives_
 -- a rule: the refusal is given where the test holds
@@ -12,3 +14,7 @@ pub data Rule : Type 0 where
 unfoldable pub judged : {A : Type 0} → (Refusal → A) → A → List Rule → A
 judged refuse accepted [] = accepted
 judged refuse accepted (test gives r ∷ rules) = cond test (refuse r) (judged refuse accepted rules)
+
+-- what rules answer
+abbrev pub answer : List Rule → Answer
+answer rules = judged Refused Accepted rules

@@ -1,5 +1,7 @@
 // The refusals and what a step answers, each with its number.
+ghost use mathlib.Core.Bool.{cond};
 ghost use mathlib.Core.Path.{_≡_};
+ghost use Rattle.refusal.specs.declared.Answer.the-variants.{Refused};
 ghost use Rattle.refusal.specs.Refusal as spec;
 
 // The refusals, in the order of their numbers.
@@ -55,5 +57,26 @@ impl Answer {
             Answer::Accepted => 0,
             Answer::Refused(e) => number(e),
         }
+    }
+
+    // Whether the answer is a refusal.
+    pub fn refuses(self) -> bool
+        ensures { λ b. ⌜ b ≡ spec.isRefused self ⌝ }
+    {
+        match self {
+            Answer::Accepted => false,
+            Answer::Refused(_) => true,
+        }
+    }
+}
+
+// The answer of a rule before others: the refusal where its test holds, else what the later ones answer.
+pub fn given(test: bool, refusal: Refusal, later: Answer) -> Answer
+    ensures { λ a. ⌜ a ≡ cond test (Refused refusal) later ⌝ }
+{
+    if test {
+        Answer::Refused(refusal)
+    } else {
+        later
     }
 }

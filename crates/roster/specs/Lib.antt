@@ -4,5 +4,6 @@ pub mod SitesLaws
 pub mod Mask
 pub mod MaskLaws
 pub mod Roster
+pub mod Counts
 pub mod RosterLaws
 pub mod QuorumLaws

@@ -2,15 +2,69 @@
 // leader of a view); the two 32-bit counts, views and ballots; and masks, sets of sites in 16 bits, in which proofs are counted.
 ghost use mathlib.Core.Path.{_≡_};
 ghost use Rattle.roster.specs.Roster.{validRoster, quorum, weakCertificate, leaderOf};
+ghost use Rattle.roster.specs.Counts as counts;
 ghost use Rattle.roster.specs.Mask.{reaches, beyond, bit, withSite};
 
 // A count of views, from 0.
 #[repr(C)]
 pub struct View(pub u32);
 
+impl View {
+    // Whether it is the same view.
+    pub fn equals(self, other: View) -> bool
+        ensures { λ b. ⌜ b ≡ counts.sameView self other ⌝ }
+    {
+        self.0 == other.0
+    }
+
+    // Whether it is a later view.
+    pub fn above(self, other: View) -> bool
+        ensures { λ b. ⌜ b ≡ counts.laterView self other ⌝ }
+    {
+        other.0 < self.0
+    }
+
+    // Whether it is view 0, which is no target.
+    pub fn is_zero(self) -> bool
+        ensures { λ b. ⌜ b ≡ counts.zeroView self ⌝ }
+    {
+        self.0 == 0
+    }
+
+    // Whether no view comes after it.
+    pub fn is_last(self) -> bool
+        ensures { λ b. ⌜ b ≡ counts.lastView self ⌝ }
+    {
+        4294967295 <= self.0
+    }
+}
+
 // A count of ballots, from 0.
 #[repr(C)]
 pub struct Ballot(pub u32);
+
+impl Ballot {
+    // Whether it is the same ballot.
+    pub fn equals(self, other: Ballot) -> bool
+        ensures { λ b. ⌜ b ≡ counts.sameBallot self other ⌝ }
+    {
+        self.0 == other.0
+    }
+
+    // Whether it is a later ballot.
+    pub fn above(self, other: Ballot) -> bool
+        ensures { λ b. ⌜ b ≡ counts.laterBallot self other ⌝ }
+    {
+        other.0 < self.0
+    }
+
+    // Whether it is ballot 0.
+    pub fn is_zero(self) -> bool
+        ensures { λ b. ⌜ b ≡ counts.zeroBallot self ⌝ }
+    {
+        self.0 == 0
+    }
+}
 
 // `n` sites, numbered from 0, of which `f` may lie.
 #[repr(C)]

@@ -1,0 +1,26 @@
+-- The refusals that speak of the commands of a frame, COMMAND and HISTORY: one list of rules for each form in which frames carry commands.
+use mathlib.Core.Bool.{Bool, not, _||_}
+use mathlib.Core.List.{List, [], _∷_}
+use Prim.Native.Nat.{ℕ}
+use lib.Dec.{eqb}
+use lib.ListN.{length}
+use Rattle.command.specs.Command.{wrong, allBy}
+use Rattle.history.specs.History.{repeated, isCanonical, improper}
+use Rattle.refusal.specs.declared.Refusal.the-variants.{Command, History as Improper}
+use Rattle.refusal.specs.Rules.{Rule, _gives_}
+
+-- a history, in P2A, VERIFY and P2B. COMMAND: "a command's fields are wrong"; HISTORY: "proposer and serial repeated; not canonical; n = 0"
+abbrev pub historyRules : List ℕ → List Rule
+historyRules h = wrong h gives Command ∷ improper h gives Improper ∷ []
+
+-- the commands that a proposer asks for. COMMAND: "or in PROPOSE its proposer isn't the sender"; HISTORY: "not canonical (PROPOSE may be)"
+abbrev pub requestRules : ℕ → List ℕ → List Rule
+requestRules by h = (wrong h || not (allBy by h)) gives Command ∷ (repeated h || eqb (length h) 0) gives Improper ∷ []
+
+-- HISTORY, of a list that may be empty: "proposer and serial repeated; not canonical"
+unfoldable pub disordered : List ℕ → Bool
+disordered h = repeated h || not (isCanonical h)
+
+-- the two histories of a P1B: "Its held history follows rules 6 and 7 also."
+abbrev pub reportRules : List ℕ → List ℕ → List Rule
+reportRules g h = (wrong g || wrong h) gives Command ∷ (disordered g || disordered h) gives Improper ∷ []

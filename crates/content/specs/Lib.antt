@@ -1,0 +1,2 @@
+-- What the contracts of `content` cite.
+pub mod Content
