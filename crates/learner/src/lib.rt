@@ -106,7 +106,7 @@ fn supporters<'a>(words: &'a [u64], counts: &'a [u8], n: u8, site: u8, h: &[u64]
 fn learn(learned: &[u64], h: &[u64], stores: bool, k: u8, next: &mut [u64; 32]) -> Verdict
     ensures { λ v. ⌜ verdict.ruled v (now (next .exit)) ≡ verdict.merging (now (learned .entry)) (now (h .entry)) stores k ⌝ }
 {
-    let m = merge::merge(learned, h);
+    let m = merge::merge(words::LIMIT, learned, h);
     let split = m.split;
     if split {
         return against(Refusal::Split);
