@@ -1,6 +1,6 @@
 -- What a call returns and leaves in the buffer, in the words of the definitions.
 use mathlib.Core.Path.{_≡_, refl, sym, ap, subst, _∙_}
-use mathlib.Core.Bool.{Bool, true, false, not, _&&_, true≢false}
+use mathlib.Core.Bool.{Bool, true, false, not}
 use mathlib.Core.List.{List, [], _∷_, _++_, append-nil}
 use Prim.Native.Nat.{ℕ, zero, suc, min, _-_, _≤_}
 use native.Mathlib.Omega.{arith}
@@ -24,26 +24,25 @@ use Rattle.table.specs.Table.{tableOf, storedIn}
 use Rattle.table.specs.TableLaws.{stored-in}
 use Rattle.proposal.specs.Proposal.{proposal, remaining}
 use Rattle.proposal.specs.ProposalLaws.{proposal-short}
-use Rattle.refusal.specs.declared.Refusal.the-variants.{Config, Stale}
+use Rattle.refusal.specs.declared.Refusal.{Refusal}
 use Rattle.refusal.specs.declared.Answer.{Answer}
-use Rattle.refusal.specs.declared.Answer.the-variants.{Accepted, Refused}
-use Rattle.refusal.specs.Rules.{judged}
+use Rattle.refusal.specs.declared.Answer.the-variants.{Accepted}
+use Rattle.refusal.specs.Refusal.{isRefused}
+use Rattle.refusal.specs.Rules.{answer}
+use Rattle.refusal.specs.AnswerLaws.{judged-refused, judged-accepted}
 use Rattle.frame.specs.declared.Frame.{Frame}
 use Rattle.frame.specs.declared.Heading.{Heading}
 use Rattle.frame.specs.declared.Reading.{Reading}
 use Rattle.frame.specs.Layout.{first, second}
-use Rattle.frame.specs.Format.{readingOf, frameWith}
+use Rattle.frame.specs.Format.{readingOf, readingWith, frameWith, malformed}
 use Rattle.site.specs.Message.{message}
-use Rattle.site.specs.Reply.{Reply, Handed, sendsIf}
+use Rattle.site.specs.Reply.{Reply, Handed, refuse, accept, sends, sendsIf}
 use Rattle.leader.specs.declared.State.{State}
 use Rattle.leader.specs.declared.Marks.{Marks}
-use Rattle.leader.specs.declared.Settled.{Settled}
 use Rattle.leader.specs.declared.Outcome.{Outcome}
-use Rattle.leader.specs.Leader as leader
-use Rattle.leader.specs.Leader.{P1B, taken, marksOf, pendingOf, reporting, reportIn, proposed, conclude, accepted, step, mayOpen, inBallot, invitation, opening}
+use Rattle.leader.specs.Leader.{kindOf, taken, received, pendingOf, rules, openingRules, reporting, reportIn, proposed, p2a, conclude, accepted, step, inBallot, invitation, opening}
 use Rattle.leader.specs.Parts.{stateOf}
-use Rattle.leader.specs.Answers.{isAccepted, answerIn, settled, marksAfter, pendingAfter, sendsP2a, Done}
-use Rattle.leader.specs.AnswersLaws.{settled-step}
+use Rattle.leader.specs.code.Calls.{rulesOn, Done}
 
 -- ---- the pending commands in place
 
@@ -89,24 +88,24 @@ shortened b l d w size e f =
 pub p2a-sent : (own : ℕ) (view : View) (ballot : Ballot) (h out : List ℕ) (m : Frame) (n : ℕ) (l : List ℕ) → length h ≤ limit
     → m ≡ message 5 own view ballot (record { 0 = 0 }) 0 (take limit h) (take limit [])
     → Handed (sendsIf (not (eqb (length h) 0)) m) n out l
-    → Handed (sendsP2a own view ballot h) n out l
+    → Handed (sendsIf (not (eqb (length h) 0)) (p2a own view ballot h)) n out l
 p2a-sent own view ballot h out m n l p e z = rw (e, take-all limit h p) at z
 
 -- ---- a report
 
--- the state with the report: k is the marks after it, c and w the counts and words of the one table, d and x those of the other
-pub stored-report : (marks : Marks) (count : ℕ) (pending provenCounts proven heldCounts held : List ℕ) (f : Heading) (words : List ℕ) (k : Marks) (g h c w d x : List ℕ)
-    → length provenCounts ≡ 16
+-- the state with the report: k is the marks after it, w and c the words and counts of the one table, x and d those of the other
+pub stored-report : (marks : Marks) (pending : List ℕ) (count : ℕ) (proven provenCounts held heldCounts : List ℕ) (f : Heading) (words : List ℕ) (k : Marks) (g h w c x d : List ℕ)
     → length proven ≡ 512
-    → length heldCounts ≡ 16
+    → length provenCounts ≡ 16
     → length held ≡ 512
+    → length heldCounts ≡ 16
     → k ≡ record { view = marks .view; ballot = marks .ballot; classic = marks .classic; reported = withSite (marks .reported) (f .sender) }
     → g ≡ first (frameWith f words)
     → tableOf w c ≡ storedIn proven provenCounts (f .sender) g
     → h ≡ second (frameWith f words)
     → tableOf x d ≡ storedIn held heldCounts (f .sender) h
-    → stateOf k count pending c w d x ≡ reporting (stateOf marks count pending provenCounts proven heldCounts held) (frameWith f words)
-stored-report marks count pending provenCounts proven heldCounts held f words k g h c w d x l1 l2 l3 l4 ek eg et eh eu =
+    → stateOf k pending count w c x d ≡ reporting (stateOf marks pending count proven provenCounts held heldCounts) (frameWith f words)
+stored-report marks pending count proven provenCounts held heldCounts f words k g h w c x d l1 l2 l3 l4 ek eg et eh eu =
     let t = et ∙ stored-in proven provenCounts (f .sender) g (omega arith) (omega arith) in
     let u = eu ∙ stored-in held heldCounts (f .sender) h (omega arith) (omega arith) in
     rw (ek, t, u, eg, eh)
@@ -130,7 +129,7 @@ module _ (r : Roster) (own : ℕ) (s : State) (out : List ℕ) where
       → p ≡ pendingOf s
       → d ≡ stored (proposal (r .n) (reportIn s (s .proven)) (reportIn s (s .held)) p)
       → h ≡ commands d
-      → Handed (sendsP2a own (s .view) (s .ballot) h) n out l
+      → Handed (sendsIf (not (eqb (length h) 0)) (p2a own (s .view) (s .ballot) h)) n out l
       → e ≡ stored (remaining (pendingOf s) h)
       → Done (conclude r own s) out
       (record {
@@ -144,82 +143,44 @@ module _ (r : Roster) (own : ℕ) (s : State) (out : List ℕ) where
       let whole : h ≡ proposed r s = eh ∙ proposed-whole p d ep ed in
       (rw (all, ← whole, en .0, ee), rw (all, ← whole) (en .1))
 
--- ---- what an answer does
+-- ---- a line: f and w are what was read of it, x is the answer, and t tells whether it refuses
 
--- b says whether it accepts
-module _ (r : Roster) (own : ℕ) (s : State) (m : Frame) (out : List ℕ) where
-  pub reports : (a : Answer) (b : Bool) → b ≡ isAccepted a → (b && eqb (m .kind) 3) ≡ true → (o : Outcome) (l : List ℕ) → Done (accepted P1B r own s m) out o l
-      → Done (settled r own s a m) out o l
-  unfolding settled
-  reports Accepted b x e o l d = rw (rw x at e) d
-  reports (Refused _) b x e o l d = absurd (true≢false (sym (rw x at e)))
+module _ (r : Roster) (own : ℕ) (s : State) (line out : List ℕ) (f : Heading) (w : List ℕ) (x : Answer) (t : Bool)
+    (p : readingWith f w ≡ readingOf line taken) (e : x ≡ answer (rulesOn r own (length out) s (readingWith f w))) (g : t ≡ isRefused x) where
+  answer-is : x ≡ answer (rules r own (length out) s line)
+  unfolding malformed
+  answer-is = subst (λ (d : Reading). x ≡ answer (rulesOn r own (length out) s d)) p e
 
-  -- no report: k is what is returned, and p what is pending
-  pub settles : (a : Answer) (b : Bool) → b ≡ isAccepted a → (b && eqb (m .kind) 3) ≡ false → (k : Settled) (p : History)
-      → (k ≡ record { answer = a; sent = 0; marks = marksAfter a (marksOf s) m }) × (p ≡ pendingAfter a (s .pending) m)
-      → Done (settled r own s a m) out
-      (record {
-        answer = k .answer;
-        sent = k .sent;
-        state = record {
-          view = k .marks .view;
-          ballot = k .marks .ballot;
-          classic = k .marks .classic;
-          pending = p;
-          reported = k .marks .reported;
-          proven = s .proven;
-          held = s .held;
-        };
-      }) out
-  unfolding settled
-  settles (Refused _) b x e k p z = (rw (z .0, z .1), refl)
-  settles Accepted b x e k p z = go (rw x at e) (eqb (m .kind) 4) refl
-    where
-      go : eqb (m .kind) 3 ≡ false → (c : Bool) → eqb (m .kind) 4 ≡ c
-          → Done (settled r own s Accepted m) out
-          (record {
-            answer = k .answer;
-            sent = k .sent;
-            state = record {
-              view = k .marks .view;
-              ballot = k .marks .ballot;
-              classic = k .marks .classic;
-              pending = p;
-              reported = k .marks .reported;
-              proven = s .proven;
-              held = s .held;
-            };
-          }) out
-      go e true f = (rw (z .0, z .1, e, f), rw (e, f))
-      go e false f = (rw (z .0, z .1, e, f), rw (e, f))
+  pub steps-refused : t ≡ true → Done (step r own (length out) s line) out (record { answer = x; sent = 0; state = s }) out
+  unfolding step
+  steps-refused h =
+      judged-refused (refuse s) (accepted (kindOf (received line .kind)) r own s (received line)) (rules r own (length out) s line) x answer-is (sym g ∙ h)
+      (λ (a : Answer) (o : Reply State). Done o out (record { answer = a; sent = 0; state = s }) out) (λ (e : Refusal). (refl, refl))
 
--- ---- a line: d is what reading it found, a the answer, o what is returned and l the buffer
+  pub steps-accepted : t ≡ false → (o : Outcome) (l : List ℕ) → Done (accepted (kindOf (f .kind)) r own s (frameWith f w)) out o l
+      → Done (step r own (length out) s line) out o l
+  unfolding step
+  steps-accepted h o l d =
+      rw (judged-accepted (refuse s) (accepted (kindOf (received line .kind)) r own s (received line)) (rules r own (length out) s line) x answer-is (sym g ∙ h))
+      (subst (λ (a : Reading). Done (accepted (kindOf (a .frame .kind)) r own s (a .frame)) out o l) p d)
 
-pub steps : (r : Roster) (own : ℕ) (s : State) (line out : List ℕ) (d : Reading) (a : Answer) (o : Outcome) (l : List ℕ) → d ≡ readingOf line taken
-    → a ≡ answerIn r own (length out) s d
-    → Done (settled r own s a (d .frame)) out o l
-    → Done (step r own (length out) s line) out o l
-steps r own s line out d a o l ed ea p =
-    let same : settled r own s a (d .frame) ≡ step r own (length out) s line = rw (ea, ed) (settled-step r own (length out) s line) in
-    subst (λ (x : Reply State). Done x out o l) same p
+-- ---- opening a ballot: x is the answer, and b tells whether it refuses
 
--- ---- opening a ballot: by CONFIG, by STALE, and accepted, where m is the frame made, n the length of its line and l the buffer, and k the marks
+module _ (r : Roster) (own : ℕ) (s : State) (ballot : Ballot) (fast : ℕ) (out : List ℕ) (x : Answer) (b : Bool)
+    (e : x ≡ answer (openingRules r own (length out) s ballot)) (g : b ≡ isRefused x) where
+  -- what an accepted opening does
+  abbrev opens-to : Reply State
+  opens-to = accept (inBallot (s .view) ballot fast (s .pending)) (sends (invitation own (s .view) ballot fast))
 
-module _ (r : Roster) (own : ℕ) (s : State) (ballot : Ballot) (fast : ℕ) (out : List ℕ) where
-  pub opens-unfit : leader.config r own (length out) s ≡ true
-      → Done (opening r own (length out) s ballot fast) out (record { answer = Refused Config; sent = 0; state = s }) out
-  unfolding opening judged
-  opens-unfit p = (rw p, rw p)
+  pub opens-not : b ≡ true → Done (opening r own (length out) s ballot fast) out (record { answer = x; sent = 0; state = s }) out
+  unfolding opening
+  opens-not h =
+      judged-refused (refuse s) opens-to (openingRules r own (length out) s ballot) x e (sym g ∙ h)
+      (λ (a : Answer) (o : Reply State). Done o out (record { answer = a; sent = 0; state = s }) out) (λ (e : Refusal). (refl, refl))
 
-  module _ (p : leader.config r own (length out) s ≡ false) where
-    pub opens-stale : mayOpen r own (marksOf s) ballot ≡ false
-        → Done (opening r own (length out) s ballot fast) out (record { answer = Refused Stale; sent = 0; state = s }) out
-    unfolding opening judged
-    opens-stale q = (rw (p, q), rw (p, q))
-
-    pub opens : mayOpen r own (marksOf s) ballot ≡ true → (m : Frame) (t : State) (n : ℕ) (l : List ℕ) → m ≡ invitation own (s .view) ballot fast
-        → t ≡ inBallot (s .view) ballot fast (s .pending)
-        → Handed (sendsIf true m) n out l
-        → Done (opening r own (length out) s ballot fast) out (record { answer = Accepted; sent = n; state = t }) l
-    unfolding opening judged
-    opens q m t n l x y z = (rw (p, q, y, z .0, x), z .1 ∙ rw (p, q, x))
+  -- n is the length of the line of the frame made, l the buffer, and t the state
+  pub opens : b ≡ false → (t : State) (n : ℕ) (l : List ℕ) → t ≡ inBallot (s .view) ballot fast (s .pending)
+      → Handed (sends (invitation own (s .view) ballot fast)) n out l
+      → Done (opening r own (length out) s ballot fast) out (record { answer = Accepted; sent = n; state = t }) l
+  unfolding opening
+  opens h t n l y z = rw (judged-accepted (refuse s) opens-to (openingRules r own (length out) s ballot) x e (sym g ∙ h), y) (rw (z .0), z .1)

@@ -1,6 +1,6 @@
 -- The leader, as document 01, "Leader", words it: its refusals in their order, what an accepted frame does, and the opening of a ballot.
 use mathlib.Core.Bool.{Bool, not, cond, _&&_, _||_}
-use mathlib.Core.List.{List, [], _∷_}
+use mathlib.Core.List.{List, [], _∷_, _++_}
 use Prim.Native.Nat.{ℕ}
 use lib.Dec.{leb, ltb, eqb}
 use lib.ListN.{length}
@@ -8,18 +8,20 @@ use Rattle.roster.specs.declared.Roster.{Roster}
 use Rattle.roster.specs.declared.View.{View}
 use Rattle.roster.specs.declared.Ballot.{Ballot}
 use Rattle.roster.specs.Roster.{quorum, leaderOf}
+use Rattle.roster.specs.Counts.{laterView, sameBallot, laterBallot, zeroBallot}
 use Rattle.roster.specs.Mask.{bit, reaches, beyond, withSite}
-use Rattle.command.specs.Command.{allValid, wrong, allBy}
+use Rattle.command.specs.Command.{allValid}
 use Rattle.history.specs.declared.History.{History}
-use Rattle.history.specs.History.{repeated, isCanonical}
+use Rattle.history.specs.History.{repeated}
 use Rattle.history.specs.Words.{limit, commands, stored}
 use Rattle.merge.specs.Merge.{appended}
 use Rattle.merge.specs.Appending.{reuses, nothingNew}
 use Rattle.table.specs.declared.Table.{Table}
 use Rattle.table.specs.Table.{storedAt, emptyTable, validTable}
 use Rattle.proposal.specs.Proposal.{report, proposal, remaining}
-use Rattle.refusal.specs.declared.Refusal.the-variants.{Config, Form, Sender, Stale, Proof, Command, History as Improper, Reused, Nothing, Full}
+use Rattle.refusal.specs.declared.Refusal.the-variants.{Config, Form, Sender, Stale, Proof, Reused, Nothing, Full}
 use Rattle.refusal.specs.Rules.{Rule, _gives_, judged}
+use Rattle.content.specs.Content.{requestRules, reportRules}
 use Rattle.frame.specs.declared.Frame.{Frame}
 use Rattle.frame.specs.Layout.{first, second}
 use Rattle.frame.specs.Format.{readingOf, malformed}
@@ -93,48 +95,47 @@ unproven r mask = beyond mask (r .n) || not (reaches mask (quorum r))
 
 -- LEADER "needs view mod N its own number and a view above its own (else STALE)"
 unfoldable pub leads : Roster → ℕ → Marks → View → Bool
-leads r own k view = eqb (leaderOf r view) own && ltb (k .view .0) (view .0)
+leads r own k view = eqb (leaderOf r view) own && laterView view (k .view)
 
 abbrev pub leaderRules : Roster → ℕ → Marks → Frame → List Rule
 leaderRules r own k m = leb (r .n) (m .sender) gives Sender ∷ not (leads r own k (m .view)) gives Stale ∷ unproven r (m .mask) gives Proof ∷ []
 
--- PROPOSE: "PROPOSE instead: sender 0"; COMMAND "or in PROPOSE its proposer isn't the sender"; HISTORY "proposer and serial repeated; not canonical
--- (PROPOSE may be); n = 0"; "REUSED, NOTHING and FULL are read against pending (at most 32)"
-abbrev pub proposeRules : List ℕ → Frame → List Rule
-proposeRules pending m =
-    eqb (m .sender) 0 gives Sender ∷
-    (wrong (first m) || not (allBy (m .sender) (first m))) gives Command ∷
-    (repeated (first m) || eqb (length (first m)) 0) gives Improper ∷
-    reuses pending (first m) gives Reused ∷
-    nothingNew pending (first m) gives Nothing ∷
-    ltb limit (length (appended pending (first m))) gives Full ∷ []
+-- SENDER: "PROPOSE instead: sender 0"
+abbrev pub proposeHeading : Frame → List Rule
+proposeHeading m = eqb (m .sender) 0 gives Sender ∷ []
+
+-- "REUSED, NOTHING and FULL are read against pending (at most 32)"
+abbrev pub pendingRules : List ℕ → List ℕ → List Rule
+pendingRules pending h =
+    reuses pending h gives Reused ∷ nothingNew pending h gives Nothing ∷ ltb limit (length (appended pending h)) gives Full ∷ []
+
+-- PROPOSE with the commands h, with any ballot
+abbrev pub proposeRules : List ℕ → Frame → List ℕ → List Rule
+proposeRules pending m h = proposeHeading m ++ (requestRules (m .sender) h ++ pendingRules pending h)
 
 -- "P1B must be for the open classic ballot, the first from its site, and before N-f came, else STALE."
 unfoldable pub awaited : Roster → Marks → Ballot → ℕ → Bool
 awaited r k ballot site =
-    isSet (k .classic) && (eqb (ballot .0) (k .ballot .0) && (not (bit (k .reported) site) && not (reaches (k .reported) (quorum r))))
+    isSet (k .classic) && (sameBallot ballot (k .ballot) && (not (bit (k .reported) site) && not (reaches (k .reported) (quorum r))))
 
 -- "An empty proven history needs proven ballot 0 and mask 0; another needs N-f ones; else PROOF."
 unfoldable pub unfounded : Roster → ℕ → Ballot → ℕ → Bool
-unfounded r n proven mask = cond (eqb n 0) (not (eqb (proven .0) 0 && eqb mask 0)) (unproven r mask)
+unfounded r n provenBallot mask = cond (eqb n 0) (not (zeroBallot provenBallot && eqb mask 0)) (unproven r mask)
 
--- HISTORY, of a list that may be empty: "proposer and serial repeated; not canonical"
-unfoldable pub disordered : List ℕ → Bool
-disordered h = repeated h || not (isCanonical h)
-
--- P1B: "Its held history follows rules 6 and 7 also."
-abbrev pub reportRules : Roster → Marks → Frame → List Rule
-reportRules r k m =
+abbrev pub reportHeading : Roster → Marks → Frame → List Rule
+reportHeading r k m =
     leb (r .n) (m .sender) gives Sender ∷
     not (awaited r k (m .ballot) (m .sender)) gives Stale ∷
-    unfounded r (m .n) (m .proven) (m .mask) gives Proof ∷
-    (wrong (first m) || wrong (second m)) gives Command ∷
-    (disordered (first m) || disordered (second m)) gives Improper ∷ []
+    unfounded r (m .n) (m .proven) (m .mask) gives Proof ∷ []
+
+-- P1B with the proven history g and the held one h
+abbrev pub p1bRules : Roster → Marks → Frame → List ℕ → List ℕ → List Rule
+p1bRules r k m g h = reportHeading r k m ++ reportRules g h
 
 -- the checks of a frame of a kind
 abbrev pub frameRules : Kind → Roster → ℕ → Marks → List ℕ → Frame → List Rule
-frameRules P1B r own k pending m = reportRules r k m
-frameRules PROPOSE r own k pending m = proposeRules pending m
+frameRules P1B r own k pending m = p1bRules r k m (first m) (second m)
+frameRules PROPOSE r own k pending m = proposeRules pending m (first m)
 frameRules LEADER r own k pending m = leaderRules r own k m
 
 -- all checks of a line
@@ -199,7 +200,7 @@ step r own room s line = judged (refuse s) (accepted (kindOf (received line .kin
 
 -- STALE: "The host opens a ballot greater than the leader's last, its view mod N being its own number, else STALE"
 unfoldable pub mayOpen : Roster → ℕ → Marks → Ballot → Bool
-mayOpen r own k ballot = ltb (k .ballot .0) (ballot .0) && eqb (leaderOf r (k .view)) own
+mayOpen r own k ballot = laterBallot ballot (k .ballot) && eqb (leaderOf r (k .view)) own
 
 abbrev pub openingRules : Roster → ℕ → ℕ → State → Ballot → List Rule
 openingRules r own room s ballot = config r own room s gives Config ∷ not (mayOpen r own (marksOf s) ballot) gives Stale ∷ []

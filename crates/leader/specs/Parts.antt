@@ -8,9 +8,9 @@ use Rattle.leader.specs.declared.Marks.{Marks}
 use Rattle.leader.specs.declared.Settled.{Settled}
 use Rattle.leader.specs.declared.Outcome.{Outcome}
 
--- the state of its parts: the marks, the count and the words of what is pending, and the counts and the words of the two tables
-abbrev pub stateOf : Marks → ℕ → List ℕ → List ℕ → List ℕ → List ℕ → List ℕ → State
-stateOf k count pending provenCounts proven heldCounts held =
+-- the state of its parts: the marks, and the words and the counts of what is pending and of the two tables
+abbrev pub stateOf : Marks → List ℕ → ℕ → List ℕ → List ℕ → List ℕ → List ℕ → State
+stateOf k pending count proven provenCounts held heldCounts =
     record {
       view = k .view;
       ballot = k .ballot;
@@ -22,6 +22,6 @@ stateOf k count pending provenCounts proven heldCounts held =
     }
 
 -- the outcome of a call in place, of what it gives and of the parts that it leaves
-abbrev pub outcomeOf : Settled → ℕ → List ℕ → List ℕ → List ℕ → List ℕ → List ℕ → Outcome
-outcomeOf o count pending provenCounts proven heldCounts held =
-    record { answer = o .answer; sent = o .sent; state = stateOf (o .marks) count pending provenCounts proven heldCounts held }
+abbrev pub outcomeOf : Settled → List ℕ → ℕ → List ℕ → List ℕ → List ℕ → List ℕ → Outcome
+outcomeOf o pending count proven provenCounts held heldCounts =
+    record { answer = o .answer; sent = o .sent; state = stateOf (o .marks) pending count proven provenCounts held heldCounts }

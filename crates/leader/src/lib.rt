@@ -1,25 +1,27 @@
 // The leader: it collects commands, opens ballots, and proposes a history of the reports that a quorum of sites sends it.
-ghost use mathlib.Core.Bool.{cond};
+ghost use mathlib.Core.Bool.{cond, not};
 ghost use mathlib.Core.List.{[]};
 ghost use mathlib.Core.Path.{_≡_};
 ghost use Prim.Native.Nat.{_≤_};
-ghost use lib.Dec.{ltb};
+ghost use lib.Dec.{eqb, ltb};
 ghost use lib.ListN.{length, take, drop};
 ghost use Rattle.history.specs.Words.{historyOf, limit, stored};
 ghost use Rattle.merge.specs.Merge.{appended};
 ghost use Rattle.proposal.specs.Proposal.{remaining};
 ghost use Rattle.roster.specs.Mask.{withSite};
 ghost use Rattle.table.specs.Table.{emptyTable, tableOf};
+ghost use Rattle.refusal.specs.Rules.{answer};
 ghost use Rattle.frame.specs.Format.{frameWith, readingWith};
-ghost use Rattle.site.specs.Reply.{Handed, sends};
+ghost use Rattle.site.specs.Reply.{Handed, sends, sendsIf};
 ghost use Rattle.site.specs.Site.{isSet};
 ghost use Rattle.leader.specs.Leader as spec;
 ghost use Rattle.leader.specs.Parts as parts;
-ghost use Rattle.leader.specs.Answers as answers;
+ghost use Rattle.leader.specs.code.Calls as calls;
 use frame::Heading;
 use history::History;
 use refusal::Answer;
 use refusal::Refusal;
+use refusal::given;
 use roster::Ballot;
 use roster::Roster;
 use roster::View;
@@ -79,7 +81,7 @@ const P2A: u8 = 5;
 const TAKEN: u16 = 1048;
 
 // Whether pending commands may be lent: at most 32, valid, no proposer and serial twice. Their order is free.
-fn pending_valid(count: u8, words: &[u64; 32]) -> bool
+fn pending_valid(words: &[u64; 32], count: u8) -> bool
     ensures { λ b. ⌜ b ≡ spec.validPending (historyOf count (now (words .entry))) ⌝ }
 {
     let n = count as usize;
@@ -97,17 +99,17 @@ fn config<'a>(
     own: u8,
     room: usize,
     marks: Marks,
-    count: u8,
     pending: &'a [u64; 32],
-    proven_counts: &'a [u8; 16],
+    count: u8,
     proven: &'a [u64; 512],
-    held_counts: &'a [u8; 16],
+    proven_counts: &'a [u8; 16],
     held: &'a [u64; 512],
+    held_counts: &'a [u8; 16],
 ) -> bool
-    ensures { λ b. ⌜ b ≡ spec.config r own room (parts.stateOf marks count (now (pending .entry)) (now («proven_counts» .entry)) (now (proven .entry)) (now («held_counts» .entry)) (now (held .entry))) ⌝ }
+    ensures { λ b. ⌜ b ≡ spec.config r own room (parts.stateOf marks (now (pending .entry)) count (now (proven .entry)) (now («proven_counts» .entry)) (now (held .entry)) (now («held_counts» .entry))) ⌝ }
 {
     !(site::seated(r, own, room)
-        & (pending_valid(count, pending)
+        & (pending_valid(pending, count)
             & (!roster::beyond(marks.reported, r.n)
                 & (table::rows_valid(proven, proven_counts, r.n)
                     & table::rows_valid(held, held_counts, r.n)))))
@@ -124,27 +126,25 @@ fn unproven(r: Roster, mask: u16) -> bool
 fn leads(r: Roster, own: u8, marks: Marks, view: View) -> bool
     ensures { λ b. ⌜ b ≡ spec.leads r own marks view ⌝ }
 {
-    let present = marks.view;
-    (r.leader_of(view) == own) & (present.0 < view.0)
+    (r.leader_of(view) == own) & view.above(marks.view)
 }
 
 // The answer to a LEADER.
-fn on_leader(r: Roster, own: u8, marks: Marks, f: Heading) -> Answer
-    ensures { λ a. ⌜ a ≡ answers.answer (spec.leaderRules r own marks (frameWith f [])) ⌝ }
+fn on_leader(r: Roster, own: u8, marks: Marks, head: Heading) -> Answer
+    ensures { λ a. ⌜ a ≡ answer (spec.leaderRules r own marks (frameWith head [])) ⌝ }
 {
-    let unknown = r.n <= f.sender;
-    if unknown {
-        return Answer::Refused(Refusal::Sender);
-    }
-    let leading = leads(r, own, marks, f.view);
-    if !leading {
-        return Answer::Refused(Refusal::Stale);
-    }
-    let weak = unproven(r, f.mask);
-    if weak {
-        return Answer::Refused(Refusal::Proof);
-    }
-    Answer::Accepted
+    let unknown = r.n <= head.sender;
+    let stale = !leads(r, own, marks, head.view);
+    let weak = unproven(r, head.mask);
+    given(
+        unknown,
+        Refusal::Sender,
+        given(
+            stale,
+            Refusal::Stale,
+            given(weak, Refusal::Proof, Answer::Accepted),
+        ),
+    )
 }
 
 // Whether p, with the commands of h appended that are not in it yet, is over 32 commands.
@@ -159,70 +159,98 @@ fn overflows(p: &[u64], h: &[u64]) -> bool
     History::LIMIT < n
 }
 
-// The answer to a PROPOSE: sender, commands and requests, and then what is pending.
-fn on_propose<'a>(pending: &'a [u64], f: Heading, words: &'a [u64]) -> Answer
-    requires { ⌜ answers.Short (now pending) (frameWith f (now words)) ⌝ }
-    ensures { λ a. ⌜ a ≡ answers.answer (spec.proposeRules (now (pending .entry)) (frameWith f (now (words .entry)))) ⌝ }
+// The answer to the heading of a PROPOSE.
+fn propose_heading(head: Heading) -> Answer
+    ensures { λ a. ⌜ a ≡ answer (spec.proposeHeading (frameWith head [])) ⌝ }
 {
-    let nobody = f.sender == 0;
-    if nobody {
-        return Answer::Refused(Refusal::Sender);
+    let nobody = head.sender == 0;
+    given(nobody, Refusal::Sender, Answer::Accepted)
+}
+
+// The answer to a PROPOSE: the heading, then the commands, then what is pending.
+fn on_propose<'a>(pending: &'a [u64], head: Heading, h: &'a [u64]) -> Answer
+    requires { ⌜ (length (now pending) ≤ 32) × (length (now h) ≤ 32) ⌝ }
+    ensures { λ a. ⌜ a ≡ answer (spec.proposeRules (now (pending .entry)) (frameWith head []) (now (h .entry))) ⌝ }
+{
+    let heading = propose_heading(head);
+    let stops = heading.refuses();
+    if stops {
+        return heading;
     }
-    let h = history::first(words, f.n as usize);
-    let wrong = !command::all_valid(h) | !command::all_by(f.sender, h);
-    if wrong {
-        return Answer::Refused(Refusal::Command);
-    }
-    let improper = history::repeated(h) | (h.len() == 0);
-    if improper {
-        return Answer::Refused(Refusal::History);
+    let commands = content::requested(head.sender, h);
+    let ends = commands.refuses();
+    if ends {
+        return commands;
     }
     let reused = merge::reuses(pending, h);
-    if reused {
-        return Answer::Refused(Refusal::Reused);
-    }
     let nothing = merge::nothing_new(pending, h);
-    if nothing {
-        return Answer::Refused(Refusal::Nothing);
-    }
     let full = overflows(pending, h);
-    if full {
-        return Answer::Refused(Refusal::Full);
-    }
-    Answer::Accepted
+    given(
+        reused,
+        Refusal::Reused,
+        given(
+            nothing,
+            Refusal::Nothing,
+            given(full, Refusal::Full, Answer::Accepted),
+        ),
+    )
 }
 
 // Whether a report is for the open classic ballot, the first from its site, and before N-f came.
 fn awaited(r: Roster, marks: Marks, ballot: Ballot, site: u8) -> bool
     ensures { λ b. ⌜ b ≡ spec.awaited r marks ballot site ⌝ }
 {
-    let present = marks.ballot;
     !(marks.classic == 0)
-        & ((ballot.0 == present.0)
+        & (ballot.equals(marks.ballot)
             & (!roster::contains(marks.reported, site)
                 & !roster::reaches(marks.reported, r.quorum())))
 }
 
 // Whether a report's proof will not do: an empty proven history needs proven ballot 0 and mask 0, another N-f ones.
-fn unfounded(r: Roster, n: u8, proven: Ballot, mask: u16) -> bool
-    ensures { λ b. ⌜ b ≡ spec.unfounded r n proven mask ⌝ }
+fn unfounded(r: Roster, n: u8, proven_ballot: Ballot, mask: u16) -> bool
+    ensures { λ b. ⌜ b ≡ spec.unfounded r n «proven_ballot» mask ⌝ }
 {
     let empty = n == 0;
     if empty {
-        return !((proven.0 == 0) & (mask == 0));
+        return !(proven_ballot.is_zero() & (mask == 0));
     }
     unproven(r, mask)
 }
 
-// Whether a list that may be empty has a proposer and serial twice, or is not in canonical order.
-fn disordered(h: &[u64]) -> bool
-    ensures { λ b. ⌜ b ≡ spec.disordered (now (h .entry)) ⌝ }
+// The answer to the heading of a P1B.
+fn report_heading(r: Roster, marks: Marks, head: Heading) -> Answer
+    ensures { λ a. ⌜ a ≡ answer (spec.reportHeading r marks (frameWith head [])) ⌝ }
 {
-    let doubled = history::repeated(h);
-    if doubled {
-        return true;
+    let unknown = r.n <= head.sender;
+    let stale = !awaited(r, marks, head.ballot, head.sender);
+    let weak = unfounded(r, head.n, head.proven, head.mask);
+    given(
+        unknown,
+        Refusal::Sender,
+        given(
+            stale,
+            Refusal::Stale,
+            given(weak, Refusal::Proof, Answer::Accepted),
+        ),
+    )
+}
+
+// The answer to a P1B with a proven and a held history: the heading, and then the two.
+fn on_report<'a>(
+    r: Roster,
+    marks: Marks,
+    head: Heading,
+    proven: &'a [u64],
+    held: &'a [u64],
+) -> Answer
+    ensures { λ a. ⌜ a ≡ answer (spec.p1bRules r marks (frameWith head []) (now (proven .entry)) (now (held .entry))) ⌝ }
+{
+    let heading = report_heading(r, marks, head);
+    let stops = heading.refuses();
+    if stops {
+        return heading;
     }
-    !history::is_canonical(h)
+    content::reported(proven, held)
 }
 
 // The m words after the first n, or as many of them as there are.
@@ -236,113 +264,89 @@ fn after<'a>(words: &'a [u64], n: usize, m: usize) -> &'a [u64]
     }
 }
 
-// The answer to a P1B: sender, ballot and proof, and then the two histories.
-fn on_report(r: Roster, marks: Marks, f: Heading, words: &[u64]) -> Answer
-    ensures { λ a. ⌜ a ≡ answers.answer (spec.reportRules r marks (frameWith f (now (words .entry)))) ⌝ }
-{
-    let unknown = r.n <= f.sender;
-    if unknown {
-        return Answer::Refused(Refusal::Sender);
-    }
-    let due = awaited(r, marks, f.ballot, f.sender);
-    if !due {
-        return Answer::Refused(Refusal::Stale);
-    }
-    let weak = unfounded(r, f.n, f.proven, f.mask);
-    if weak {
-        return Answer::Refused(Refusal::Proof);
-    }
-    let n = f.n as usize;
-    let k = f.m as usize;
-    let g = history::first(words, n);
-    let h = after(words, n, k);
-    let wrong = !command::all_valid(g) | !command::all_valid(h);
-    if wrong {
-        return Answer::Refused(Refusal::Command);
-    }
-    let improper = disordered(g) | disordered(h);
-    if improper {
-        return Answer::Refused(Refusal::History);
-    }
-    Answer::Accepted
-}
-
 // The answer to a frame, by its kind.
 fn judge<'a>(
     r: Roster,
     own: u8,
     marks: Marks,
     pending: &'a [u64],
-    f: Heading,
+    head: Heading,
     words: &'a [u64; 64],
 ) -> Answer
-    requires { ⌜ answers.Short (now pending) (frameWith f (now words)) ⌝ }
-    ensures { λ a. ⌜ a ≡ answers.answerTo r own marks (now (pending .entry)) (frameWith f (now (words .entry))) ⌝ }
+    requires { ⌜ (length (now pending) ≤ 32) × (head .n ≤ 32) ⌝ }
+    ensures { λ a. ⌜ a ≡ answer (spec.frameRules (spec.kindOf (head .kind)) r own marks (now (pending .entry)) (frameWith head (now (words .entry)))) ⌝ }
 {
-    let report = f.kind == P1B;
+    let n = head.n as usize;
+    let h = history::first(words, n);
+    let report = head.kind == P1B;
     if report {
-        return on_report(r, marks, f, words);
+        let held = after(words, n, head.m as usize);
+        return on_report(r, marks, head, h, held);
     }
-    let request = f.kind == PROPOSE;
+    let request = head.kind == PROPOSE;
     if request {
-        return on_propose(pending, f, words);
+        return on_propose(pending, head, h);
     }
-    on_leader(r, own, marks, f)
+    on_leader(r, own, marks, head)
 }
 
-// The answer to a line of which this frame was read, if one was found.
+// The answer to a line of which this was read: CONFIG and FORM, and then by the frame.
 fn check<'a>(
     r: Roster,
     own: u8,
     room: usize,
     marks: Marks,
-    count: u8,
     pending: &'a [u64; 32],
-    proven_counts: &'a [u8; 16],
+    count: u8,
     proven: &'a [u64; 512],
-    held_counts: &'a [u8; 16],
+    proven_counts: &'a [u8; 16],
     held: &'a [u64; 512],
-    f: Heading,
+    held_counts: &'a [u8; 16],
+    head: Heading,
     words: &'a [u64; 64],
 ) -> Answer
-    requires { ⌜ f .n ≤ 32 ⌝ }
-    ensures { λ a. ⌜ a ≡ answers.answerIn r own room (parts.stateOf marks count (now (pending .entry)) (now («proven_counts» .entry)) (now (proven .entry)) (now («held_counts» .entry)) (now (held .entry))) (readingWith f (now (words .entry))) ⌝ }
+    requires { ⌜ head .n ≤ 32 ⌝ }
+    ensures { λ a. ⌜ a ≡ answer (calls.rulesOn r own room (parts.stateOf marks (now (pending .entry)) count (now (proven .entry)) (now («proven_counts» .entry)) (now (held .entry)) (now («held_counts» .entry))) (readingWith head (now (words .entry)))) ⌝ }
 {
     let unfit = config(
         r,
         own,
         room,
         marks,
-        count,
         pending,
-        proven_counts,
+        count,
         proven,
-        held_counts,
+        proven_counts,
         held,
+        held_counts,
     );
-    if unfit {
-        return Answer::Refused(Refusal::Config);
-    }
-    let found = f.found;
-    if !found {
-        return Answer::Refused(Refusal::Form);
+    let lost = !head.found;
+    let line = given(
+        unfit,
+        Refusal::Config,
+        given(lost, Refusal::Form, Answer::Accepted),
+    );
+    let stops = line.refuses();
+    if stops {
+        return line;
     }
     let p = history::first(pending, count as usize);
-    judge(r, own, marks, p, f, words)
+    judge(r, own, marks, p, head, words)
 }
 
-// Whether an answer accepts.
-fn accepts(a: Answer) -> bool
-    ensures { λ b. ⌜ b ≡ answers.isAccepted a ⌝ }
+// What a call gives that sends no frame.
+fn silent(marks: Marks, answer: Answer) -> Settled
+    ensures { λ o. ⌜ o ≡ record { answer = answer; sent = 0; marks = marks } ⌝ }
 {
-    match a {
-        Answer::Accepted => true,
-        Answer::Refused(_) => false,
+    Settled {
+        answer,
+        sent: 0,
+        marks,
     }
 }
 
 // Appends to the pending commands those of h that are not there yet, up to 32, and leaves zeros after them.
-fn lengthen(count: &mut u8, pending: &mut [u64], h: &[u64])
+fn lengthen(pending: &mut [u64], count: &mut u8, h: &[u64])
     requires { ⌜ length (now pending) ≡ 32 ⌝ }
     ensures { λ u. ⌜ historyOf (now (count .exit)) (now (pending .exit)) ≡ stored (appended (take (now (count .entry)) (now (pending .entry))) (now (h .entry))) ⌝ }
 {
@@ -354,7 +358,7 @@ fn lengthen(count: &mut u8, pending: &mut [u64], h: &[u64])
 }
 
 // Keeps of the pending commands those that h does not hold, and leaves zeros after them.
-fn shorten(count: &mut u8, pending: &mut [u64], h: &[u64])
+fn shorten(pending: &mut [u64], count: &mut u8, h: &[u64])
     requires { ⌜ length (now pending) ≡ 32 ⌝ }
     ensures { λ u. ⌜ historyOf (now (count .exit)) (now (pending .exit)) ≡ stored (remaining (take (now (count .entry)) (now (pending .entry))) (now (h .entry))) ⌝ }
 {
@@ -369,7 +373,7 @@ fn shorten(count: &mut u8, pending: &mut [u64], h: &[u64])
 // Writes the P2A of a proposal, if it is not empty, and answers the length of its line.
 fn send_p2a(own: u8, view: View, ballot: Ballot, h: &[u64], out: &mut [u8]) -> usize
     requires { ⌜ length (now h) ≤ 32 ⌝ }
-    ensures { λ k. ⌜ Handed (answers.sendsP2a own view ballot (now (h .entry))) k (now (out .entry)) (now (out .exit)) ⌝ }
+    ensures { λ k. ⌜ Handed (sendsIf (not (eqb (length (now (h .entry))) 0)) (spec.p2a own view ballot (now (h .entry)))) k (now (out .entry)) (now (out .exit)) ⌝ }
 {
     let none: [u64; 0] = [];
     site::send(
@@ -386,31 +390,20 @@ fn send_p2a(own: u8, view: View, ballot: Ballot, h: &[u64], out: &mut [u8]) -> u
     )
 }
 
-// What a call gives that sends no frame.
-fn silent(marks: Marks, answer: Answer) -> Settled
-    ensures { λ o. ⌜ o ≡ record { answer = answer; sent = 0; marks = marks } ⌝ }
-{
-    Settled {
-        answer,
-        sent: 0,
-        marks,
-    }
-}
-
 // On report N-f, proposes a history of the reports and of what is pending, and keeps pending what it does not hold. Before that, nothing.
 fn conclude<'a>(
     r: Roster,
     own: u8,
     marks: Marks,
-    count: &mut u8,
     pending: &mut [u64; 32],
-    proven_counts: &'a [u8],
+    count: &mut u8,
     proven: &'a [u64],
-    held_counts: &'a [u8],
+    proven_counts: &'a [u8],
     held: &'a [u64],
+    held_counts: &'a [u8],
     out: &mut [u8],
 ) -> Settled
-    ensures { λ o. ⌜ answers.Done (spec.conclude r own (parts.stateOf marks (now (count .entry)) (now (pending .entry)) (now («proven_counts» .entry)) (now (proven .entry)) (now («held_counts» .entry)) (now (held .entry)))) (now (out .entry)) (parts.outcomeOf o (now (count .exit)) (now (pending .exit)) (now («proven_counts» .entry)) (now (proven .entry)) (now («held_counts» .entry)) (now (held .entry))) (now (out .exit)) ⌝ }
+    ensures { λ o. ⌜ calls.Done (spec.conclude r own (parts.stateOf marks (now (pending .entry)) (now (count .entry)) (now (proven .entry)) (now («proven_counts» .entry)) (now (held .entry)) (now («held_counts» .entry)))) (now (out .entry)) (parts.outcomeOf o (now (pending .exit)) (now (count .exit)) (now (proven .entry)) (now («proven_counts» .entry)) (now (held .entry)) (now («held_counts» .entry))) (now (out .exit)) ⌝ }
 {
     let complete = roster::reaches(marks.reported, r.quorum());
     if !complete {
@@ -431,7 +424,7 @@ fn conclude<'a>(
     let words: &[u64] = &proposed.words;
     let h = history::first(words, proposed.count as usize);
     let sent = send_p2a(own, marks.view, marks.ballot, h, out);
-    shorten(count, pending, h);
+    shorten(pending, count, h);
     Settled {
         answer: Answer::Accepted,
         sent,
@@ -458,67 +451,91 @@ fn collect(
     r: Roster,
     own: u8,
     marks: Marks,
-    f: Heading,
+    head: Heading,
     words: &[u64; 64],
-    count: &mut u8,
     pending: &mut [u64; 32],
-    proven_counts: &mut [u8; 16],
+    count: &mut u8,
     proven: &mut [u64; 512],
-    held_counts: &mut [u8; 16],
+    proven_counts: &mut [u8; 16],
     held: &mut [u64; 512],
+    held_counts: &mut [u8; 16],
     out: &mut [u8],
 ) -> Settled
-    ensures { λ o. ⌜ answers.Done (spec.accepted spec.P1B r own (parts.stateOf marks (now (count .entry)) (now (pending .entry)) (now («proven_counts» .entry)) (now (proven .entry)) (now («held_counts» .entry)) (now (held .entry))) (frameWith f (now (words .entry)))) (now (out .entry)) (parts.outcomeOf o (now (count .exit)) (now (pending .exit)) (now («proven_counts» .exit)) (now (proven .exit)) (now («held_counts» .exit)) (now (held .exit))) (now (out .exit)) ⌝ }
+    ensures { λ o. ⌜ calls.Done (spec.accepted spec.P1B r own (parts.stateOf marks (now (pending .entry)) (now (count .entry)) (now (proven .entry)) (now («proven_counts» .entry)) (now (held .entry)) (now («held_counts» .entry))) (frameWith head (now (words .entry)))) (now (out .entry)) (parts.outcomeOf o (now (pending .exit)) (now (count .exit)) (now (proven .exit)) (now («proven_counts» .exit)) (now (held .exit)) (now («held_counts» .exit))) (now (out .exit)) ⌝ }
 {
-    let n = f.n as usize;
-    let k = f.m as usize;
-    let site = f.sender as usize;
+    let n = head.n as usize;
+    let k = head.m as usize;
+    let site = head.sender as usize;
     table::store(proven, proven_counts, site, history::first(words, n));
     table::store(held, held_counts, site, after(words, n, k));
-    let now = reporting(marks, f.sender);
+    let now = reporting(marks, head.sender);
     conclude(
         r,
         own,
         now,
-        count,
         pending,
-        proven_counts,
+        count,
         proven,
-        held_counts,
+        proven_counts,
         held,
+        held_counts,
         out,
     )
 }
 
-// Does what an answer says, except to a report that is accepted: appends the requested commands, or takes the view that this site is to lead.
-fn settle(
-    marks: Marks,
-    answer: Answer,
-    f: Heading,
-    words: &[u64; 64],
-    count: &mut u8,
-    pending: &mut [u64; 32],
-) -> Settled
-    ensures { λ o. ⌜ (o ≡ record { answer = answer; sent = 0; marks = answers.marksAfter answer marks (frameWith f (now (words .entry))) }) × (historyOf (now (count .exit)) (now (pending .exit)) ≡ answers.pendingAfter answer (historyOf (now (count .entry)) (now (pending .entry))) (frameWith f (now (words .entry)))) ⌝ }
+// The marks in a view that this site is to lead.
+fn in_view(marks: Marks, view: View) -> Marks
+    ensures { λ k. ⌜ k ≡ record { view = view; ballot = marks .ballot; classic = marks .classic; reported = marks .reported } ⌝ }
 {
-    let accepted = accepts(answer);
-    if !accepted {
-        return silent(marks, answer);
-    }
-    let request = f.kind == PROPOSE;
-    if request {
-        lengthen(count, pending, history::first(words, f.n as usize));
-        return silent(marks, answer);
-    }
-    let view = f.view;
     let ballot = marks.ballot;
-    let now = Marks {
+    Marks {
         view,
         ballot,
         classic: marks.classic,
         reported: marks.reported,
-    };
-    silent(now, answer)
+    }
+}
+
+// Does what an accepted frame asks for: takes the report, appends the requested commands, or takes the view.
+fn perform(
+    r: Roster,
+    own: u8,
+    marks: Marks,
+    head: Heading,
+    words: &[u64; 64],
+    pending: &mut [u64; 32],
+    count: &mut u8,
+    proven: &mut [u64; 512],
+    proven_counts: &mut [u8; 16],
+    held: &mut [u64; 512],
+    held_counts: &mut [u8; 16],
+    out: &mut [u8],
+) -> Settled
+    ensures { λ o. ⌜ calls.Done (spec.accepted (spec.kindOf (head .kind)) r own (parts.stateOf marks (now (pending .entry)) (now (count .entry)) (now (proven .entry)) (now («proven_counts» .entry)) (now (held .entry)) (now («held_counts» .entry))) (frameWith head (now (words .entry)))) (now (out .entry)) (parts.outcomeOf o (now (pending .exit)) (now (count .exit)) (now (proven .exit)) (now («proven_counts» .exit)) (now (held .exit)) (now («held_counts» .exit))) (now (out .exit)) ⌝ }
+{
+    let report = head.kind == P1B;
+    if report {
+        return collect(
+            r,
+            own,
+            marks,
+            head,
+            words,
+            pending,
+            count,
+            proven,
+            proven_counts,
+            held,
+            held_counts,
+            out,
+        );
+    }
+    let request = head.kind == PROPOSE;
+    if request {
+        lengthen(pending, count, history::first(words, head.n as usize));
+        return silent(marks, Answer::Accepted);
+    }
+    silent(in_view(marks, head.view), Answer::Accepted)
 }
 
 // One step in place, on the parts of a leader's state: the answer to a line, how much of the buffer is to be sent, and the marks after it; the parts are
@@ -527,19 +544,19 @@ pub fn step_in_place(
     r: Roster,
     own: u8,
     marks: Marks,
-    count: &mut u8,
     pending: &mut [u64; 32],
-    proven_counts: &mut [u8; 16],
+    count: &mut u8,
     proven: &mut [u64; 512],
-    held_counts: &mut [u8; 16],
+    proven_counts: &mut [u8; 16],
     held: &mut [u64; 512],
+    held_counts: &mut [u8; 16],
     line: &[u8],
     out: &mut [u8],
 ) -> Settled
-    ensures { λ o. ⌜ (parts.outcomeOf o (now (count .exit)) (now (pending .exit)) (now («proven_counts» .exit)) (now (proven .exit)) (now («held_counts» .exit)) (now (held .exit)) ≡ spec.returned r own (parts.stateOf marks (now (count .entry)) (now (pending .entry)) (now («proven_counts» .entry)) (now (proven .entry)) (now («held_counts» .entry)) (now (held .entry))) (now (line .entry)) (now (out .entry))) × (now (out .exit) ≡ spec.output r own (parts.stateOf marks (now (count .entry)) (now (pending .entry)) (now («proven_counts» .entry)) (now (proven .entry)) (now («held_counts» .entry)) (now (held .entry))) (now (line .entry)) (now (out .entry))) ⌝ }
+    ensures { λ o. ⌜ ((parts.outcomeOf o (now (pending .exit)) (now (count .exit)) (now (proven .exit)) (now («proven_counts» .exit)) (now (held .exit)) (now («held_counts» .exit))) ≡ spec.returned r own (parts.stateOf marks (now (pending .entry)) (now (count .entry)) (now (proven .entry)) (now («proven_counts» .entry)) (now (held .entry)) (now («held_counts» .entry))) (now (line .entry)) (now (out .entry))) × (now (out .exit) ≡ spec.output r own (parts.stateOf marks (now (pending .entry)) (now (count .entry)) (now (proven .entry)) (now («proven_counts» .entry)) (now (held .entry)) (now («held_counts» .entry))) (now (line .entry)) (now (out .entry))) ⌝ }
 {
     let mut read = [0u64; 64];
-    let f = frame::read_into(line, TAKEN, &mut read);
+    let head = frame::read_into(line, TAKEN, &mut read);
     let words = &read;
     let room = out.len();
     let answer = check(
@@ -547,41 +564,40 @@ pub fn step_in_place(
         own,
         room,
         marks,
-        *count,
         pending,
-        proven_counts,
+        *count,
         proven,
-        held_counts,
+        proven_counts,
         held,
-        f,
+        held_counts,
+        head,
         words,
     );
-    let report = accepts(answer) & (f.kind == P1B);
-    if report {
-        return collect(
-            r,
-            own,
-            marks,
-            f,
-            words,
-            count,
-            pending,
-            proven_counts,
-            proven,
-            held_counts,
-            held,
-            out,
-        );
+    let refused = answer.refuses();
+    if refused {
+        return silent(marks, answer);
     }
-    settle(marks, answer, f, words, count, pending)
+    perform(
+        r,
+        own,
+        marks,
+        head,
+        words,
+        pending,
+        count,
+        proven,
+        proven_counts,
+        held,
+        held_counts,
+        out,
+    )
 }
 
 // Whether this site may open a ballot: one above its last, in a view that it leads.
 fn may_open(r: Roster, own: u8, marks: Marks, ballot: Ballot) -> bool
     ensures { λ b. ⌜ b ≡ spec.mayOpen r own marks ballot ⌝ }
 {
-    let last = marks.ballot;
-    (last.0 < ballot.0) & (r.leader_of(marks.view) == own)
+    ballot.above(marks.ballot) & (r.leader_of(marks.view) == own)
 }
 
 // The one number or the other.
@@ -625,17 +641,17 @@ fn opened(view: View, ballot: Ballot, fast: u8) -> Marks
 
 // Empties the tables of the reports.
 fn forget(
-    proven_counts: &mut [u8; 16],
     proven: &mut [u64; 512],
-    held_counts: &mut [u8; 16],
+    proven_counts: &mut [u8; 16],
     held: &mut [u64; 512],
+    held_counts: &mut [u8; 16],
 )
     ensures { λ u. ⌜ (tableOf (now (proven .exit)) (now («proven_counts» .exit)) ≡ emptyTable) × (tableOf (now (held .exit)) (now («held_counts» .exit)) ≡ emptyTable) ⌝ }
 {
-    *proven_counts = [0u8; 16];
     *proven = [0u64; 512];
-    *held_counts = [0u8; 16];
+    *proven_counts = [0u8; 16];
     *held = [0u64; 512];
+    *held_counts = [0u8; 16];
 }
 
 // Opens a ballot in place, classic where `fast` is 0: P1A or FAST goes out, and the reports are forgotten; pending stays. Any ballot is answered,
@@ -644,17 +660,17 @@ pub fn open_in_place(
     r: Roster,
     own: u8,
     marks: Marks,
-    count: &mut u8,
     pending: &mut [u64; 32],
-    proven_counts: &mut [u8; 16],
+    count: &mut u8,
     proven: &mut [u64; 512],
-    held_counts: &mut [u8; 16],
+    proven_counts: &mut [u8; 16],
     held: &mut [u64; 512],
+    held_counts: &mut [u8; 16],
     ballot: Ballot,
     fast: u8,
     out: &mut [u8],
 ) -> Settled
-    ensures { λ o. ⌜ (parts.outcomeOf o (now (count .exit)) (now (pending .exit)) (now («proven_counts» .exit)) (now (proven .exit)) (now («held_counts» .exit)) (now (held .exit)) ≡ spec.openingReturned r own (parts.stateOf marks (now (count .entry)) (now (pending .entry)) (now («proven_counts» .entry)) (now (proven .entry)) (now («held_counts» .entry)) (now (held .entry))) ballot fast (now (out .entry))) × (now (out .exit) ≡ spec.openingOutput r own (parts.stateOf marks (now (count .entry)) (now (pending .entry)) (now («proven_counts» .entry)) (now (proven .entry)) (now («held_counts» .entry)) (now (held .entry))) ballot fast (now (out .entry))) ⌝ }
+    ensures { λ o. ⌜ ((parts.outcomeOf o (now (pending .exit)) (now (count .exit)) (now (proven .exit)) (now («proven_counts» .exit)) (now (held .exit)) (now («held_counts» .exit))) ≡ spec.openingReturned r own (parts.stateOf marks (now (pending .entry)) (now (count .entry)) (now (proven .entry)) (now («proven_counts» .entry)) (now (held .entry)) (now («held_counts» .entry))) ballot fast (now (out .entry))) × (now (out .exit) ≡ spec.openingOutput r own (parts.stateOf marks (now (pending .entry)) (now (count .entry)) (now (proven .entry)) (now («proven_counts» .entry)) (now (held .entry)) (now («held_counts» .entry))) ballot fast (now (out .entry))) ⌝ }
 {
     let room = out.len();
     let unfit = config(
@@ -662,22 +678,25 @@ pub fn open_in_place(
         own,
         room,
         marks,
-        *count,
         pending,
-        proven_counts,
+        *count,
         proven,
-        held_counts,
+        proven_counts,
         held,
+        held_counts,
     );
-    if unfit {
-        return silent(marks, Answer::Refused(Refusal::Config));
-    }
-    let may = may_open(r, own, marks, ballot);
-    if !may {
-        return silent(marks, Answer::Refused(Refusal::Stale));
+    let stale = !may_open(r, own, marks, ballot);
+    let answer = given(
+        unfit,
+        Refusal::Config,
+        given(stale, Refusal::Stale, Answer::Accepted),
+    );
+    let refused = answer.refuses();
+    if refused {
+        return silent(marks, answer);
     }
     let sent = invite(own, marks.view, ballot, fast, out);
-    forget(proven_counts, proven, held_counts, held);
+    forget(proven, proven_counts, held, held_counts);
     let now = opened(marks.view, ballot, fast);
     Settled {
         answer: Answer::Accepted,

@@ -5,6 +5,9 @@ use borrow.Author.Needs.{needs}
 use Rattle.leader.proofs.awaited.Statement.{statement}
 use Rattle.leader.proofs.awaited.Tie as tie
 
+equals-requires : tie.Need-equals-requires
+equals-requires c κs = search needs
+
 contains-requires : tie.Need-contains-requires
 contains-requires c κs = search needs
 
@@ -16,11 +19,8 @@ reaches-requires c κs = search needs
 
 returns : tie.Need-returns
 unfolding awaited
-returns c =
-    let contains-call = c .before .before .contains in
-    let reaches-call = c .reaches in
-    let quorum-call = c .before .quorum in
-    rw (contains-call .ensures, reaches-call .ensures, quorum-call .ensures)
+returns c = cc
 
 pub awaited-spec : {M : Type 1} → statement M
-awaited-spec = tie.close (tie.spec contains-requires quorum-requires reaches-requires returns)
+awaited-spec =
+    tie.close (tie.spec equals-requires contains-requires quorum-requires reaches-requires returns)

@@ -1,14 +1,9 @@
--- `leader::check` meets its contract: it asks the tests of CONFIG and FORM in their order, and hands on the frame.
+-- `leader::check` meets its contract: a refusal by CONFIG or FORM is the answer, else that by the frame.
 -- Assumes nothing.
-use mathlib.Core.Path.{sym, ap, _∙_}
-use mathlib.Core.List.{List}
-use Prim.Native.Nat.{ℕ}
+use mathlib.Core.Path.{refl}
 use native.Mathlib.Omega.{arith}
-use borrow.Author.Tests.{not-true, not-false}
 use lib.ListN.{length-take}
-use Rattle.refusal.specs.Rules.{judged}
-use Rattle.frame.specs.Format.{frameWith}
-use Rattle.leader.specs.Answers.{answerIn, answerTo}
+use Rattle.refusal.specs.AnswerLaws.{rule, no-rule, stops, goes-on}
 use borrow.Author.Needs.{needs}
 use Rattle.leader.proofs.check.Statement.{statement}
 use Rattle.leader.proofs.check.Tie as tie
@@ -16,43 +11,39 @@ use Rattle.leader.proofs.check.Tie as tie
 config-requires : tie.Need-config-requires
 config-requires c κs = search needs
 
-returns : tie.Need-returns
-unfolding judged answerIn
-returns c =
-    let config-call = c .before .config in
-    let if1 = c .if1 in
-    rw (sym (config-call .ensures) ∙ if1 .taken)
+given-requires : tie.Need-given-requires
+given-requires c κs = search needs
 
-returns-2 : tie.Need-returns-2
-unfolding judged answerIn
-returns-2 c =
-    let config-call = c .before .before .config in
-    let if1 = c .before .if1 in
-    let given = c .before .before .before .args in
-    let if2 = c .if2 in
-    rw (sym (config-call .ensures) ∙ if1 .left, not-true (given .f .found) (if2 .taken))
+given-requires-2 : tie.Need-given-requires-2
+given-requires-2 c κs = search needs
+
+refuses-requires : tie.Need-refuses-requires
+refuses-requires c κs = search needs
+
+returns : tie.Need-returns
+returns c =
+    stops _ _ (rule _ _ (c .before .before .given2 .ensures) (c .before .before .before .before .before .config .ensures) (rule _ _ (c .before .before .before .given .ensures) refl no-rule)) (c .before .refuses .ensures) (c .if1 .taken)
 
 first-requires : tie.Need-first-requires
 first-requires c κs = search needs
 
 judge-requires : tie.Need-judge-requires
-judge-requires c κs =
-    let first-call = c .first in
-    let required = c .before .before .before .before .before .pre in
-    record { short-pending = rw (first-call .ensures, length-take) (omega arith); short = rw length-take (omega (arith, required)) }
+judge-requires c κs = (rw (c .first .ensures, length-take) (omega arith), c .before .before .before .before .before .before .before .before .pre)
 
-returns-3 : tie.Need-returns-3
-unfolding judged answerIn
-returns-3 c =
-    let config-call = c .before .before .before .before .before .config in
-    let if1 = c .before .before .before .before .if1 in
-    let given = c .before .before .before .before .before .before .args in
-    let if2 = c .before .before .before .if2 in
-    let judge-call = c .judge in
-    let first-call = c .before .first in
-    rw (sym (config-call .ensures) ∙ if1 .left, not-false (given .f .found) (if2 .left)) (judge-call .ensures ∙ ap (λ (l : List ℕ). answerTo (given .r) (given .own) (given .marks) l (frameWith (given .f) (given .words .now))) (first-call .ensures))
+returns-2 : tie.Need-returns-2
+returns-2 c =
+    goes-on _ _ (rule _ _ (c .before .before .before .before .before .given2 .ensures) (c .before .before .before .before .before .before .before .before .config .ensures) (rule _ _ (c .before .before .before .before .before .before .given .ensures) refl no-rule)) (c .before .before .before .before .refuses .ensures) (c .before .before .before .if1 .left)
+    (rw (← c .before .first .ensures) (c .judge .ensures))
 
 pub check-spec : {M : Type 1} → statement M
 check-spec =
     tie.close
-    (tie.spec config-requires returns returns-2 first-requires judge-requires returns-3)
+    (tie.spec
+    config-requires
+    given-requires
+    given-requires-2
+    refuses-requires
+    returns
+    first-requires
+    judge-requires
+    returns-2)

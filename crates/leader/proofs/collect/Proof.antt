@@ -6,7 +6,7 @@ use denote.Ref.{now}
 use Rattle.leader.specs.declared.State.{State}
 use Rattle.leader.specs.Leader.{conclude}
 use Rattle.leader.specs.Parts.{outcomeOf}
-use Rattle.leader.specs.Answers.{Done}
+use Rattle.leader.specs.code.Calls.{Done}
 use Rattle.leader.proofs.Calls.{stored-report}
 use borrow.Author.Needs.{needs}
 use Rattle.leader.proofs.collect.Statement.{statement}
@@ -45,8 +45,8 @@ same-length c = search needs
 returns : tie.Need-returns
 returns c =
     let given = c .before .before .before .before .before .before .before .before .before .before .before .before .before .before .before .before .before .before .before .before .before .before .before .before .before .before .before .before .before .args in
-    let stored = stored-report (given .marks) (given .count .now) (given .pending .now) (given .proven-counts .now) (given .proven .now) (given .held-counts .now) (given .held .now) (given .f) (given .words .now) (c .before .before .before .before .before .before .before .before .before .before .before .before .before .before .reporting .result) (now (c .before .before .before .before .before .before .before .before .before .before .before .before .before .before .before .before .before .before .before .before .before .first .result)) (now (c .before .before .before .before .before .before .before .before .before .before .before .before .before .before .before .before .after .result)) (c .before .before .before .before .before .before .before .before .before .before .before .before .before .before .before .before .before .before .before .before .store .last .1 .0) (c .before .before .before .before .before .before .before .before .before .before .before .before .before .before .before .before .before .before .before .before .store .last .0) (c .before .before .before .before .before .before .before .before .before .before .before .before .before .before .before .store2 .last .1 .0) (c .before .before .before .before .before .before .before .before .before .before .before .before .before .before .before .store2 .last .0) (omega (arith, c .before .before .before .before .before .before .before .before .before .before .before .before .before .before .before .before .before .before .before .before .before .before .before .store-arg2 .given)) (omega (arith, c .before .before .before .before .before .before .before .before .before .before .before .before .before .before .before .before .before .before .before .before .before .before .before .before .store-arg .given)) (omega (arith, c .before .before .before .before .before .before .before .before .before .before .before .before .before .before .before .before .before .before .store-arg4 .given)) (omega (arith, c .before .before .before .before .before .before .before .before .before .before .before .before .before .before .before .before .before .before .before .store-arg3 .given)) (c .before .before .before .before .before .before .before .before .before .before .before .before .before .before .reporting .ensures) (c .before .before .before .before .before .before .before .before .before .before .before .before .before .before .before .before .before .before .before .before .before .first .ensures) (c .before .before .before .before .before .before .before .before .before .before .before .before .before .before .before .before .before .before .before .before .store .ensures) (c .before .before .before .before .before .before .before .before .before .before .before .before .before .before .before .before .after .ensures) (c .before .before .before .before .before .before .before .before .before .before .before .before .before .before .before .store2 .ensures) in
-    subst (λ (s : State). Done (conclude (given .r) (given .own) s) (given .out .now) (outcomeOf (c .before .before .conclude .result) (c .before .before .conclude .last .1 .1 .1 .0) (c .before .before .conclude .last .1 .1 .1 .1 .0) (c .before .before .before .before .before .before .before .before .before .before .before .before .before .before .before .before .before .before .before .before .store .last .1 .0) (c .before .before .before .before .before .before .before .before .before .before .before .before .before .before .before .before .before .before .before .before .store .last .0) (c .before .before .before .before .before .before .before .before .before .before .before .before .before .before .before .store2 .last .1 .0) (c .before .before .before .before .before .before .before .before .before .before .before .before .before .before .before .store2 .last .0)) (c .before .before .conclude .last .1 .1 .1 .1 .1 .1 .1 .1 .1 .0)) stored (c .before .before .conclude .ensures)
+    let stored = stored-report (given .marks) (given .pending .now) (given .count .now) (given .proven .now) (given .proven-counts .now) (given .held .now) (given .held-counts .now) (given .head) (given .words .now) (c .before .before .before .before .before .before .before .before .before .before .before .before .before .before .reporting .result) (now (c .before .before .before .before .before .before .before .before .before .before .before .before .before .before .before .before .before .before .before .before .before .first .result)) (now (c .before .before .before .before .before .before .before .before .before .before .before .before .before .before .before .before .after .result)) (c .before .before .before .before .before .before .before .before .before .before .before .before .before .before .before .before .before .before .before .before .store .last .0) (c .before .before .before .before .before .before .before .before .before .before .before .before .before .before .before .before .before .before .before .before .store .last .1 .0) (c .before .before .before .before .before .before .before .before .before .before .before .before .before .before .before .store2 .last .0) (c .before .before .before .before .before .before .before .before .before .before .before .before .before .before .before .store2 .last .1 .0) (omega (arith, c .before .before .before .before .before .before .before .before .before .before .before .before .before .before .before .before .before .before .before .before .before .before .before .before .store-arg .given)) (omega (arith, c .before .before .before .before .before .before .before .before .before .before .before .before .before .before .before .before .before .before .before .before .before .before .before .store-arg2 .given)) (omega (arith, c .before .before .before .before .before .before .before .before .before .before .before .before .before .before .before .before .before .before .before .store-arg3 .given)) (omega (arith, c .before .before .before .before .before .before .before .before .before .before .before .before .before .before .before .before .before .before .store-arg4 .given)) (c .before .before .before .before .before .before .before .before .before .before .before .before .before .before .reporting .ensures) (c .before .before .before .before .before .before .before .before .before .before .before .before .before .before .before .before .before .before .before .before .before .first .ensures) (c .before .before .before .before .before .before .before .before .before .before .before .before .before .before .before .before .before .before .before .before .store .ensures) (c .before .before .before .before .before .before .before .before .before .before .before .before .before .before .before .before .after .ensures) (c .before .before .before .before .before .before .before .before .before .before .before .before .before .before .before .store2 .ensures) in
+    subst (λ (s : State). Done (conclude (given .r) (given .own) s) (given .out .now) (outcomeOf (c .before .before .conclude .result) (c .before .before .conclude .last .1 .1 .1 .0) (c .before .before .conclude .last .1 .1 .1 .1 .0) (c .before .before .before .before .before .before .before .before .before .before .before .before .before .before .before .before .before .before .before .before .store .last .0) (c .before .before .before .before .before .before .before .before .before .before .before .before .before .before .before .before .before .before .before .before .store .last .1 .0) (c .before .before .before .before .before .before .before .before .before .before .before .before .before .before .before .store2 .last .0) (c .before .before .before .before .before .before .before .before .before .before .before .before .before .before .before .store2 .last .1 .0)) (c .before .before .conclude .last .1 .1 .1 .1 .1 .1 .1 .1 .1 .0)) stored (c .before .before .conclude .ensures)
 
 pub collect-spec : {M : Type 1} → statement M
 collect-spec =

@@ -1,46 +1,49 @@
 -- `leader::judge` meets its contract: it hands the frame on by its kind.
 -- Assumes nothing.
-use Rattle.leader.specs.Answers.{answerTo}
+use native.Mathlib.Omega.{arith}
+use lib.ListN.{length-take}
 use borrow.Author.Needs.{needs}
 use Rattle.leader.proofs.judge.Statement.{statement}
 use Rattle.leader.proofs.judge.Tie as tie
+
+cast-n : tie.Need-cast-n
+cast-n c = search needs
+
+first-requires : tie.Need-first-requires
+first-requires c κs = search needs
+
+cast-after : tie.Need-cast-after
+cast-after c = search needs
+
+after-requires : tie.Need-after-requires
+after-requires c κs = search needs
 
 on-report-requires : tie.Need-on-report-requires
 on-report-requires c κs = search needs
 
 returns : tie.Need-returns
-unfolding answerTo
-returns c =
-    let if1 = c .before .before .if1 in
-    let on-report-call = c .on-report in
-    rw (if1 .taken) (on-report-call .ensures)
+returns c = rw (c .before .before .before .before .if1 .taken, ← c .before .before .before .before .before .before .first .ensures, ← c .before .after .ensures) (c .on-report .ensures)
 
 on-propose-requires : tie.Need-on-propose-requires
-on-propose-requires c κs = search needs
+on-propose-requires c κs = (c .before .before .before .before .before .before .before .before .pre .0, rw (c .before .before .before .before .first .ensures, length-take) (omega (arith, c .before .before .before .before .before .before .before .before .pre .1)))
 
 returns-2 : tie.Need-returns-2
-unfolding answerTo
-returns-2 c =
-    let if1 = c .before .before .before .before .if1 in
-    let if2 = c .before .before .if2 in
-    let on-propose-call = c .on-propose in
-    rw (if1 .left, if2 .taken) (on-propose-call .ensures)
+returns-2 c = rw (c .before .before .before .if1 .left, c .before .if2 .taken, ← c .before .before .before .before .before .first .ensures) (c .on-propose .ensures)
 
 on-leader-requires : tie.Need-on-leader-requires
 on-leader-requires c κs = search needs
 
 returns-3 : tie.Need-returns-3
-unfolding answerTo
-returns-3 c =
-    let if1 = c .before .before .before .if1 in
-    let if2 = c .before .if2 in
-    let on-leader-call = c .on-leader in
-    rw (if1 .left, if2 .left) (on-leader-call .ensures)
+returns-3 c = rw (c .before .before .before .if1 .left, c .before .if2 .left) (c .on-leader .ensures)
 
 pub judge-spec : {M : Type 1} → statement M
 judge-spec =
     tie.close
     (tie.spec
+    cast-n
+    first-requires
+    cast-after
+    after-requires
     on-report-requires
     returns
     on-propose-requires

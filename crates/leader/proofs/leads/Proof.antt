@@ -8,11 +8,12 @@ use Rattle.leader.proofs.leads.Tie as tie
 leader-of-requires : tie.Need-leader-of-requires
 leader-of-requires c κs = search needs
 
+above-requires : tie.Need-above-requires
+above-requires c κs = search needs
+
 returns : tie.Need-returns
 unfolding leads
-returns c =
-    let leader-of-call = c .before .before .leader-of in
-    rw (leader-of-call .ensures)
+returns c = cc
 
 pub leads-spec : {M : Type 1} → statement M
-leads-spec = tie.close (tie.spec leader-of-requires returns)
+leads-spec = tie.close (tie.spec leader-of-requires above-requires returns)

@@ -5,12 +5,15 @@ use borrow.Author.Needs.{needs}
 use Rattle.leader.proofs.may_open.Statement.{statement}
 use Rattle.leader.proofs.may_open.Tie as tie
 
+above-requires : tie.Need-above-requires
+above-requires c κs = search needs
+
 leader-of-requires : tie.Need-leader-of-requires
 leader-of-requires c κs = search needs
 
 returns : tie.Need-returns
 unfolding mayOpen
-returns c = rw (c .leader-of .ensures)
+returns c = cc
 
 pub may-open-spec : {M : Type 1} → statement M
-may-open-spec = tie.close (tie.spec leader-of-requires returns)
+may-open-spec = tie.close (tie.spec above-requires leader-of-requires returns)

@@ -1,147 +1,69 @@
--- `leader::on_propose` meets its contract: it asks the tests of SENDER, COMMAND, HISTORY, REUSED, NOTHING and FULL in their order.
+-- `leader::on_propose` meets its contract: a refusal by the heading is the answer, else one by the commands, else that by what is pending.
 -- Assumes nothing.
-use mathlib.Core.Path.{sym, _∙_}
-use Rattle.command.specs.Command.{wrong}
-use Rattle.refusal.specs.Rules.{judged}
+use Rattle.refusal.specs.AnswerLaws.{rule, no-rule, stops, goes-on}
 use borrow.Author.Needs.{needs}
 use Rattle.leader.proofs.on_propose.Statement.{statement}
 use Rattle.leader.proofs.on_propose.Tie as tie
 
+propose-heading-requires : tie.Need-propose-heading-requires
+propose-heading-requires c κs = search needs
+
+refuses-requires : tie.Need-refuses-requires
+refuses-requires c κs = search needs
+
 returns : tie.Need-returns
-unfolding judged
-returns c = rw (c .if1 .taken)
+returns c = stops _ _ (c .before .before .propose-heading .ensures) (c .before .refuses .ensures) (c .if1 .taken)
 
-cast-first : tie.Need-cast-first
-cast-first c = search needs
+requested-requires : tie.Need-requested-requires
+requested-requires c κs = search needs
 
-first-requires : tie.Need-first-requires
-first-requires c κs = search needs
-
-all-valid-requires : tie.Need-all-valid-requires
-all-valid-requires c κs = search needs
-
-all-by-requires : tie.Need-all-by-requires
-all-by-requires c κs = search needs
+refuses-requires-2 : tie.Need-refuses-requires-2
+refuses-requires-2 c κs = search needs
 
 returns-2 : tie.Need-returns-2
-unfolding judged wrong
 returns-2 c =
-    let if1 = c .before .before .before .before .before .if1 in
-    let first-call = c .before .before .before .first in
-    let all-valid-call = c .before .before .all-valid in
-    let all-by-call = c .before .all-by in
-    let if2 = c .if2 in
-    rw (if1 .left, ← first-call .ensures, ← all-valid-call .ensures, ← all-by-call .ensures, if2 .taken)
-
-repeated-requires : tie.Need-repeated-requires
-repeated-requires c κs = search needs
-
-returns-3 : tie.Need-returns-3
-unfolding judged wrong
-returns-3 c =
-    let if1 = c .before .before .before .before .before .before .before .if1 in
-    let first-call = c .before .before .before .before .before .first in
-    let all-valid-call = c .before .before .before .before .all-valid in
-    let all-by-call = c .before .before .before .all-by in
-    let if2 = c .before .before .if2 in
-    let repeated-call = c .before .repeated in
-    let if3 = c .if3 in
-    rw (if1 .left, ← first-call .ensures, ← all-valid-call .ensures, ← all-by-call .ensures, if2 .left, ← repeated-call .ensures, if3 .taken)
+    goes-on _ _ (c .before .before .before .before .before .propose-heading .ensures) (c .before .before .before .before .refuses .ensures) (c .before .before .before .if1 .left)
+    (stops _ _ (c .before .before .requested .ensures) (c .before .refuses2 .ensures) (c .if2 .taken))
 
 reuses-requires : tie.Need-reuses-requires
 reuses-requires c κs = search needs
 
-returns-4 : tie.Need-returns-4
-unfolding judged wrong
-returns-4 c =
-    let if1 = c .before .before .before .before .before .before .before .before .before .if1 in
-    let first-call = c .before .before .before .before .before .before .before .first in
-    let all-valid-call = c .before .before .before .before .before .before .all-valid in
-    let all-by-call = c .before .before .before .before .before .all-by in
-    let if2 = c .before .before .before .before .if2 in
-    let repeated-call = c .before .before .before .repeated in
-    let if3 = c .before .before .if3 in
-    let reuses-call = c .before .reuses in
-    let if4 = c .if4 in
-    rw (if1 .left, ← first-call .ensures, ← all-valid-call .ensures, ← all-by-call .ensures, if2 .left, ← repeated-call .ensures, if3 .left, sym (reuses-call .ensures) ∙ if4 .taken)
-
 nothing-new-requires : tie.Need-nothing-new-requires
 nothing-new-requires c κs = search needs
 
-returns-5 : tie.Need-returns-5
-unfolding judged wrong
-returns-5 c =
-    let if1 = c .before .before .before .before .before .before .before .before .before .before .before .if1 in
-    let first-call = c .before .before .before .before .before .before .before .before .before .first in
-    let all-valid-call = c .before .before .before .before .before .before .before .before .all-valid in
-    let all-by-call = c .before .before .before .before .before .before .before .all-by in
-    let if2 = c .before .before .before .before .before .before .if2 in
-    let repeated-call = c .before .before .before .before .before .repeated in
-    let if3 = c .before .before .before .before .if3 in
-    let reuses-call = c .before .before .before .reuses in
-    let if4 = c .before .before .if4 in
-    let nothing-new-call = c .before .nothing-new in
-    let if5 = c .if5 in
-    rw (if1 .left, ← first-call .ensures, ← all-valid-call .ensures, ← all-by-call .ensures, if2 .left, ← repeated-call .ensures, if3 .left, sym (reuses-call .ensures) ∙ if4 .left, sym (nothing-new-call .ensures) ∙ if5 .taken)
-
 overflows-requires : tie.Need-overflows-requires
-overflows-requires c κs =
-    let required = c .before .before .before .before .before .before .before .before .before .before .before .before .before .before .before .pre in
-    let first-call = c .before .before .before .before .before .before .before .before .before .first in
-    (required .short-pending, rw (first-call .ensures) (required .short))
+overflows-requires c κs = c .before .before .before .before .before .before .before .before .before .before .pre
 
-returns-6 : tie.Need-returns-6
-unfolding judged wrong
-returns-6 c =
-    let if1 = c .before .before .before .before .before .before .before .before .before .before .before .before .before .if1 in
-    let first-call = c .before .before .before .before .before .before .before .before .before .before .before .first in
-    let all-valid-call = c .before .before .before .before .before .before .before .before .before .before .all-valid in
-    let all-by-call = c .before .before .before .before .before .before .before .before .before .all-by in
-    let if2 = c .before .before .before .before .before .before .before .before .if2 in
-    let repeated-call = c .before .before .before .before .before .before .before .repeated in
-    let if3 = c .before .before .before .before .before .before .if3 in
-    let reuses-call = c .before .before .before .before .before .reuses in
-    let if4 = c .before .before .before .before .if4 in
-    let nothing-new-call = c .before .before .before .nothing-new in
-    let if5 = c .before .before .if5 in
-    let overflows-call = c .before .overflows in
-    let if6 = c .if6 in
-    rw (if1 .left, ← first-call .ensures, ← all-valid-call .ensures, ← all-by-call .ensures, if2 .left, ← repeated-call .ensures, if3 .left, sym (reuses-call .ensures) ∙ if4 .left, sym (nothing-new-call .ensures) ∙ if5 .left, sym (overflows-call .ensures) ∙ if6 .taken)
+given-requires : tie.Need-given-requires
+given-requires c κs = search needs
 
-returns-7 : tie.Need-returns-7
-unfolding judged wrong
-returns-7 c =
-    let if1 = c .before .before .before .before .before .before .before .before .before .before .before .before .before .if1 in
-    let first-call = c .before .before .before .before .before .before .before .before .before .before .before .first in
-    let all-valid-call = c .before .before .before .before .before .before .before .before .before .before .all-valid in
-    let all-by-call = c .before .before .before .before .before .before .before .before .before .all-by in
-    let if2 = c .before .before .before .before .before .before .before .before .if2 in
-    let repeated-call = c .before .before .before .before .before .before .before .repeated in
-    let if3 = c .before .before .before .before .before .before .if3 in
-    let reuses-call = c .before .before .before .before .before .reuses in
-    let if4 = c .before .before .before .before .if4 in
-    let nothing-new-call = c .before .before .before .nothing-new in
-    let if5 = c .before .before .if5 in
-    let overflows-call = c .before .overflows in
-    let if6 = c .if6 in
-    rw (if1 .left, ← first-call .ensures, ← all-valid-call .ensures, ← all-by-call .ensures, if2 .left, ← repeated-call .ensures, if3 .left, sym (reuses-call .ensures) ∙ if4 .left, sym (nothing-new-call .ensures) ∙ if5 .left, sym (overflows-call .ensures) ∙ if6 .left)
+given-requires-2 : tie.Need-given-requires-2
+given-requires-2 c κs = search needs
+
+given-requires-3 : tie.Need-given-requires-3
+given-requires-3 c κs = search needs
+
+returns-3 : tie.Need-returns-3
+returns-3 c =
+    goes-on _ _ (c .before .before .before .before .before .before .before .before .before .before .before .propose-heading .ensures) (c .before .before .before .before .before .before .before .before .before .before .refuses .ensures) (c .before .before .before .before .before .before .before .before .before .if1 .left)
+    (goes-on _ _ (c .before .before .before .before .before .before .before .before .requested .ensures) (c .before .before .before .before .before .before .before .refuses2 .ensures) (c .before .before .before .before .before .before .if2 .left)
+    (rule _ _ (c .given3 .ensures) (c .before .before .before .before .before .reuses .ensures)
+    (rule _ _ (c .before .given2 .ensures) (c .before .before .before .before .nothing-new .ensures) (rule _ _ (c .before .before .given .ensures) (c .before .before .before .overflows .ensures) no-rule))))
 
 pub on-propose-spec : {M : Type 1} → statement M
 on-propose-spec =
     tie.close
     (tie.spec
+    propose-heading-requires
+    refuses-requires
     returns
-    cast-first
-    first-requires
-    all-valid-requires
-    all-by-requires
+    requested-requires
+    refuses-requires-2
     returns-2
-    repeated-requires
-    returns-3
     reuses-requires
-    returns-4
     nothing-new-requires
-    returns-5
     overflows-requires
-    returns-6
-    returns-7)
+    given-requires
+    given-requires-2
+    given-requires-3
+    returns-3)

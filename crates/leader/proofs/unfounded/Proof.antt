@@ -5,21 +5,19 @@ use borrow.Author.Needs.{needs}
 use Rattle.leader.proofs.unfounded.Statement.{statement}
 use Rattle.leader.proofs.unfounded.Tie as tie
 
+is-zero-requires : tie.Need-is-zero-requires
+is-zero-requires c κs = search needs
+
 returns : tie.Need-returns
 unfolding unfounded
-returns c =
-    let if1 = c .before .if1 in
-    rw (if1 .taken)
+returns c = rw (c .before .if1 .taken) (cc)
 
 unproven-requires : tie.Need-unproven-requires
 unproven-requires c κs = search needs
 
 returns-2 : tie.Need-returns-2
 unfolding unfounded
-returns-2 c =
-    let if1 = c .before .if1 in
-    let unproven-call = c .unproven in
-    rw (if1 .left) (unproven-call .ensures)
+returns-2 c = rw (c .before .if1 .left) (c .unproven .ensures)
 
 pub unfounded-spec : {M : Type 1} → statement M
-unfounded-spec = tie.close (tie.spec returns unproven-requires returns-2)
+unfounded-spec = tie.close (tie.spec is-zero-requires returns unproven-requires returns-2)
