@@ -46,10 +46,12 @@ use Rattle.proposal.specs.ProposalLaws.{
 use Rattle.proposal.specs.ProposalLaws as proposals
 use Rattle.refusal.specs.declared.Refusal.{Refusal}
 use Rattle.refusal.specs.declared.Answer.the-variants.{Accepted}
-use Rattle.refusal.specs.declared.Refusal.the-variants.{Config, Form}
+use Rattle.refusal.specs.declared.Refusal.the-variants.{Config, Form, Sender, Stale, Proof, Command, History as Improper, Reused, Nothing, Full}
 use Rattle.refusal.specs.AnswerLaws.{accepted-not-refused}
 use Rattle.refusal.specs.Rules.{Rule, _gives_, judged}
-use Rattle.refusal.specs.JudgedLaws.{GivenFirst, passed, pass, Judgement, refused, accepts, judgement, rising}
+use Rattle.refusal.specs.Order.{inOrder, follows}
+use Rattle.refusal.specs.JudgedLaws.{GivenFirst, Judgement, refused, accepts, judgement, testOf, no-test}
+use Rattle.content.specs.Content.{disordered}
 use Rattle.frame.specs.declared.Frame.{Frame}
 use Rattle.frame.specs.Layout.{first, second}
 use Rattle.frame.specs.FormatLaws.{read-n, read-m}
@@ -76,7 +78,6 @@ use Rattle.leader.specs.Leader.{
   leads,
   awaited,
   unfounded,
-  disordered,
   frameRules,
   rules,
   inView,
@@ -144,7 +145,7 @@ rulesFor k r own room s line =
     config r own room s gives Config ∷ form line gives Form ∷ frameRules k r own (marksOf s) (pendingOf s) (received line)
 
 pub stepped : (r : Roster) (own room : ℕ) (s : State) (line : List ℕ) → Stepped r own room s line
-unfolding step
+unfolding step testOf
 stepped r own room s line = go (kindOf (received line .kind)) refl refl
   where
     Given : Kind → Type 0
@@ -162,43 +163,62 @@ stepped r own room s line = go (kindOf (received line .kind)) refl refl
 
     report : kindOf (received line .kind) ≡ P1B → Given P1B → Judged P1B → Stepped r own room s line
     report p q (refused e g o) = refusing P1B p e g (q ∙ o)
-    report p q (accepts (pass a (pass b (pass c (pass d (pass e (pass f (pass g passed))))))) o) =
+    report p q (accepts n o) =
         reports
-        (record { configured = a; framed = b; kind = p; from-site = c; timely = d; founded = e; right = f; proper = g; outcome = q ∙ o })
+        (record {
+          configured = no-test n Config;
+          framed = no-test n Form;
+          kind = p;
+          from-site = no-test n Sender;
+          timely = no-test n Stale;
+          founded = no-test n Proof;
+          right = no-test n Command;
+          proper = no-test n Improper;
+          outcome = q ∙ o;
+        })
 
     request : kindOf (received line .kind) ≡ PROPOSE → Given PROPOSE → Judged PROPOSE → Stepped r own room s line
     request p q (refused e g o) = refusing PROPOSE p e g (q ∙ o)
-    request p q (accepts (pass a (pass b (pass c (pass d (pass e (pass f (pass g (pass h passed)))))))) o) =
+    request p q (accepts n o) =
         requests
         (record {
-          configured = a;
-          framed = b;
+          configured = no-test n Config;
+          framed = no-test n Form;
           kind = p;
-          from-proposer = c;
-          right = d;
-          proper = e;
-          unused = f;
-          something = g;
-          fits = h;
+          from-proposer = no-test n Sender;
+          right = no-test n Command;
+          proper = no-test n Improper;
+          unused = no-test n Reused;
+          something = no-test n Nothing;
+          fits = no-test n Full;
           outcome = q ∙ o;
         })
 
     elect : kindOf (received line .kind) ≡ LEADER → Given LEADER → Judged LEADER → Stepped r own room s line
     elect p q (refused e g o) = refusing LEADER p e g (q ∙ o)
-    elect p q (accepts (pass a (pass b (pass c (pass d (pass e passed))))) o) =
-        elects (record { configured = a; framed = b; kind = p; from-site = c; timely = d; proven = e; outcome = q ∙ o })
+    elect p q (accepts n o) =
+        elects
+        (record {
+          configured = no-test n Config;
+          framed = no-test n Form;
+          kind = p;
+          from-site = no-test n Sender;
+          timely = no-test n Stale;
+          proven = no-test n Proof;
+          outcome = q ∙ o;
+        })
 
     go : (k : Kind) → kindOf (received line .kind) ≡ k → Given (kindOf (received line .kind)) → Stepped r own room s line
     go P1B p q = report p (subst Given p q) (judge P1B)
     go PROPOSE p q = request p (subst Given p q) (judge PROPOSE)
     go LEADER p q = elect p (subst Given p q) (judge LEADER)
 
--- "Checks run in this order": the numbers of the rules rise
-pub rules-rise : (r : Roster) (own room : ℕ) (s : State) (line : List ℕ) → rising 0 (rules r own room s line) ≡ true
-unfolding rising
-rules-rise r own room s line = go (kindOf (received line .kind))
+-- "Checks run in this order": the rules follow the table of refusals
+pub rules-follow : (r : Roster) (own room : ℕ) (s : State) (line : List ℕ) → follows inOrder (rules r own room s line) ≡ true
+unfolding follows
+rules-follow r own room s line = go (kindOf (received line .kind))
   where
-    go : (k : Kind) → rising 0 (rulesFor k r own room s line) ≡ true
+    go : (k : Kind) → follows inOrder (rulesFor k r own room s line) ≡ true
     go P1B = refl
     go PROPOSE = refl
     go LEADER = refl
@@ -217,19 +237,19 @@ pub data Opened (r : Roster) (own room : ℕ) (s : State) (ballot : Ballot) (fas
   opens : Opens r own room s ballot fast → Opened r own room s ballot fast
 
 pub opened : (r : Roster) (own room : ℕ) (s : State) (ballot : Ballot) (fast : ℕ) → Opened r own room s ballot fast
-unfolding opening
+unfolding opening testOf
 opened r own room s ballot fast =
     go (judgement (refuse s) (accept (inBallot (s .view) ballot fast (s .pending)) (sends (invitation own (s .view) ballot fast))) (openingRules r own room s ballot))
   where
     go : Judgement (refuse s) (accept (inBallot (s .view) ballot fast (s .pending)) (sends (invitation own (s .view) ballot fast))) (openingRules r own room s ballot)
         → Opened r own room s ballot fast
     go (refused e g o) = stays e g o
-    go (accepts (pass a (pass b passed)) o) = opens (record { configured = a; timely = b; outcome = o })
+    go (accepts n o) = opens (record { configured = no-test n Config; timely = no-test n Stale; outcome = o })
 
--- the numbers of its rules rise
-pub opening-rules-rise : (r : Roster) (own room : ℕ) (s : State) (ballot : Ballot) → rising 0 (openingRules r own room s ballot) ≡ true
-unfolding rising
-opening-rules-rise r own room s ballot = refl
+-- its rules follow the table too
+pub opening-rules-follow : (r : Roster) (own room : ℕ) (s : State) (ballot : Ballot) → follows inOrder (openingRules r own room s ballot) ≡ true
+unfolding follows
+opening-rules-follow r own room s ballot = refl
 
 -- ---- what an accepted P1B does
 
