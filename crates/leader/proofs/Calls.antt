@@ -15,7 +15,8 @@ use Rattle.roster.specs.declared.Ballot.{Ballot}
 use Rattle.roster.specs.Roster.{quorum}
 use Rattle.roster.specs.Mask.{reaches, withSite}
 use Rattle.history.specs.declared.History.{History}
-use Rattle.history.specs.Words.{limit, historyOf, padded, commands, stored}
+use Rattle.words.specs.Sizes.{capacity}
+use Rattle.history.specs.Words.{historyOf, padded, commands, stored}
 use Rattle.words.specs.WordsLaws.{length-padded, padded-whole}
 use Rattle.history.specs.WordsLaws.{commands-stored, stored-first}
 use Rattle.merge.specs.Merge.{appended, appendedIn}
@@ -56,11 +57,11 @@ zeros (suc n) (c ∷ l) p =
     rw less (ap (λ (x : List ℕ). c ∷ x) (zeros n l (omega arith)))
 
 -- b are the words before, of which k are commands, w those after h was appended, of which n are commands, and y the zeros behind them
-module _ (b : List ℕ) (k : ℕ) (h : List ℕ) (n : ℕ) (w : List ℕ) (size : length b ≡ limit) (p : n ≡ length (appendedIn b k h)) (q : w ≡ appendedIn b k h ++ drop n b) where
-  pub few : n ≤ limit
+module _ (b : List ℕ) (k : ℕ) (h : List ℕ) (n : ℕ) (w : List ℕ) (size : length b ≡ capacity) (p : n ≡ length (appendedIn b k h)) (q : w ≡ appendedIn b k h ++ drop n b) where
+  pub few : n ≤ capacity
   few = rw (p, length-take, size) (omega arith)
 
-  pub wide : length w ≡ limit
+  pub wide : length w ≡ capacity
   wide = let short = few in rw (q, length-append, ← p, length-drop, size) (omega arith)
 
   pub lengthened : (y : List ℕ) → y ≡ padded (length (midOf n (length w - n) w)) [] → historyOf n (putMid n (length w - n) w y) ≡ stored (appended (take k b) h)
@@ -69,27 +70,27 @@ module _ (b : List ℕ) (k : ℕ) (h : List ℕ) (n : ℕ) (w : List ℕ) (size 
       let room = wide in
       let all = appendedIn b k h in
       let taken : length (midOf n (length w - n) w) ≡ length w - n = length-take-le _ (drop n w) (rw length-drop (omega arith)) in
-      let part : length (midOf n (length w - n) w) ≡ limit - length all = omega (arith, taken, room, p) in
+      let part : length (midOf n (length w - n) w) ≡ capacity - length all = omega (arith, taken, room, p) in
       let behind : drop (length w - n) (drop n w) ≡ [] = drop-of-length-le (drop n w) {i = length w - n} (rw length-drop (omega arith)) in
-      let words : putMid n (length w - n) w y ≡ padded limit all = rw (take-appended b k h n w p q, e, part, behind, append-nil (padded (limit - length all) [])) (zeros limit all (omega (arith, p, short))) in
-      let counted : n ≡ min (length all) limit = omega (arith, p, short) in
+      let words : putMid n (length w - n) w y ≡ padded capacity all = rw (take-appended b k h n w p q, e, part, behind, append-nil (padded (capacity - length all) [])) (zeros capacity all (omega (arith, p, short))) in
+      let counted : n ≡ min (length all) capacity = omega (arith, p, short) in
       let whole : historyOf n (putMid n (length w - n) w y) ≡ stored all = λ i. record { count = counted i; words = words i } in
       whole ∙ ap (λ (j : ℕ). stored (take j (appended (take k b) h))) size ∙ stored-first (appended (take k b) h)
 
 -- d by value, copied over the words b
-pub shortened : (b l : List ℕ) (d : History) (w : List ℕ) → length b ≡ limit → d ≡ stored l → w ≡ padded (length b) (d .words) → historyOf (d .count) w ≡ stored l
+pub shortened : (b l : List ℕ) (d : History) (w : List ℕ) → length b ≡ capacity → d ≡ stored l → w ≡ padded (length b) (d .words) → historyOf (d .count) w ≡ stored l
 shortened b l d w size e f =
-    let again : padded limit (padded limit l) ≡ padded limit l = rw (length-padded limit l) at (padded-whole (padded limit l)) in
-    let words : w ≡ padded limit l = f ∙ ap (λ (n : ℕ). padded n (d .words)) size ∙ ap (λ (x : History). padded limit (x .words)) e ∙ again in
+    let again : padded capacity (padded capacity l) ≡ padded capacity l = rw (length-padded capacity l) at (padded-whole (padded capacity l)) in
+    let words : w ≡ padded capacity l = f ∙ ap (λ (n : ℕ). padded n (d .words)) size ∙ ap (λ (x : History). padded capacity (x .words)) e ∙ again in
     λ i. record { count = e i .count; words = words i }
 
 -- ---- a P2A: m is the frame made, n the length of its line and l the buffer
 
-pub p2a-sent : (own : ℕ) (view : View) (ballot : Ballot) (h out : List ℕ) (m : Frame) (n : ℕ) (l : List ℕ) → length h ≤ limit
-    → m ≡ message 5 own view ballot (record { 0 = 0 }) 0 (take limit h) (take limit [])
+pub p2a-sent : (own : ℕ) (view : View) (ballot : Ballot) (h out : List ℕ) (m : Frame) (n : ℕ) (l : List ℕ) → length h ≤ capacity
+    → m ≡ message 5 own view ballot (record { 0 = 0 }) 0 (take capacity h) (take capacity [])
     → Handed (sendsIf (not (eqb (length h) 0)) m) n out l
     → Handed (sendsIf (not (eqb (length h) 0)) (p2a own view ballot h)) n out l
-p2a-sent own view ballot h out m n l p e z = rw (e, take-all limit h p) at z
+p2a-sent own view ballot h out m n l p e z = rw (e, take-all capacity h p) at z
 
 -- ---- a report
 

@@ -2,7 +2,7 @@
 use mathlib.Core.Bool.{Bool, not, cond, _&&_, _||_}
 use mathlib.Core.List.{List, [], _∷_, _++_}
 use Prim.Native.Nat.{ℕ}
-use lib.Dec.{leb, ltb, eqb}
+use lib.Dec.{leb, eqb}
 use lib.ListN.{length}
 use Rattle.roster.specs.declared.Roster.{Roster}
 use Rattle.roster.specs.declared.View.{View}
@@ -13,9 +13,10 @@ use Rattle.roster.specs.Mask.{bit, reaches, beyond, withSite}
 use Rattle.command.specs.Command.{allValid}
 use Rattle.history.specs.declared.History.{History}
 use Rattle.history.specs.History.{repeated}
-use Rattle.history.specs.Words.{limit, commands, stored}
+use Rattle.words.specs.Sizes.{limit}
+use Rattle.history.specs.Words.{commands, stored}
 use Rattle.merge.specs.Merge.{appended}
-use Rattle.merge.specs.Appending.{reuses, nothingNew}
+use Rattle.merge.specs.Appending.{reuses, nothingNew, overflows}
 use Rattle.table.specs.declared.Table.{Table}
 use Rattle.table.specs.Table.{storedAt, emptyTable, validTable}
 use Rattle.proposal.specs.Proposal.{report, proposal, remaining}
@@ -75,15 +76,15 @@ marksOf s = record { view = s .view; ballot = s .ballot; classic = s .classic; r
 
 -- CONFIG: a list of pending commands may be lent without a "count over 32, a wrong command, a repeated proposer and serial in one list"; its order
 -- is free
-unfoldable pub validPending : History → Bool
-validPending p = leb (p .count) limit && (allValid (commands p) && not (repeated (commands p)))
+unfoldable pub validPending : ℕ → History → Bool
+validPending limit p = leb (p .count) limit && (allValid (commands p) && not (repeated (commands p)))
 
 -- roster, own number and buffer; pending; and of the reports no "stored history not canonical, or a mask bit or entry at N or above"
 unfoldable pub config : Roster → ℕ → ℕ → State → Bool
 config r own room s =
     not
     (seated r own room
-    && (validPending (s .pending) && (not (beyond (s .reported) (r .n)) && (validTable (r .n) (s .proven) && validTable (r .n) (s .held)))))
+    && (validPending limit (s .pending) && (not (beyond (s .reported) (r .n)) && (validTable (r .n) (s .proven) && validTable (r .n) (s .held)))))
 
 -- FORM: no line of a kind that a leader takes
 abbrev pub form : List ℕ → Bool
@@ -107,7 +108,7 @@ proposeHeading m = eqb (m .sender) 0 gives Sender ∷ []
 -- "REUSED, NOTHING and FULL are read against pending (at most 32)"
 abbrev pub pendingRules : List ℕ → List ℕ → List Rule
 pendingRules pending h =
-    reuses pending h gives Reused ∷ nothingNew pending h gives Nothing ∷ ltb limit (length (appended pending h)) gives Full ∷ []
+    reuses pending h gives Reused ∷ nothingNew pending h gives Nothing ∷ overflows limit pending h gives Full ∷ []
 
 -- PROPOSE with the commands h, with any ballot
 abbrev pub proposeRules : List ℕ → Frame → List ℕ → List Rule

@@ -3,9 +3,9 @@ ghost use mathlib.Core.Bool.{cond, not};
 ghost use mathlib.Core.List.{[]};
 ghost use mathlib.Core.Path.{_≡_};
 ghost use Prim.Native.Nat.{_≤_};
-ghost use lib.Dec.{eqb, ltb};
+ghost use lib.Dec.{eqb};
 ghost use lib.ListN.{length, take, drop};
-ghost use Rattle.history.specs.Words.{historyOf, limit, stored};
+ghost use Rattle.history.specs.Words.{historyOf, stored};
 ghost use Rattle.merge.specs.Merge.{appended};
 ghost use Rattle.proposal.specs.Proposal.{remaining};
 ghost use Rattle.roster.specs.Mask.{withSite};
@@ -80,16 +80,15 @@ const P2A: u8 = 5;
 // P1B, PROPOSE and LEADER, which are bits 3, 4 and 10.
 const TAKEN: u16 = 1048;
 
-// Whether pending commands may be lent: at most 32, valid, no proposer and serial twice. Their order is free.
-fn pending_valid(words: &[u64; 32], count: u8) -> bool
-    ensures { λ b. ⌜ b ≡ spec.validPending (historyOf count (now (words .entry))) ⌝ }
+// Whether pending commands may be lent: no more than the limit, valid, no proposer and serial twice. Their order is free.
+fn pending_valid(limit: u8, words: &[u64; 32], count: u8) -> bool
+    ensures { λ b. ⌜ b ≡ spec.validPending limit (historyOf count (now (words .entry))) ⌝ }
 {
-    let n = count as usize;
-    let fits = n <= History::LIMIT;
+    let fits = count <= limit;
     if !fits {
         return false;
     }
-    let h = history::first(words, n);
+    let h = history::first(words, count as usize);
     command::all_valid(h) & !history::repeated(h)
 }
 
@@ -109,7 +108,7 @@ fn config<'a>(
     ensures { λ b. ⌜ b ≡ spec.config r own room (parts.stateOf marks (now (pending .entry)) count (now (proven .entry)) (now («proven_counts» .entry)) (now (held .entry)) (now («held_counts» .entry))) ⌝ }
 {
     !(site::seated(r, own, room)
-        & (pending_valid(pending, count)
+        & (pending_valid(words::LIMIT, pending, count)
             & (!roster::beyond(marks.reported, r.n)
                 & (table::rows_valid(proven, proven_counts, r.n)
                     & table::rows_valid(held, held_counts, r.n)))))
@@ -147,18 +146,6 @@ fn on_leader(r: Roster, own: u8, marks: Marks, head: Heading) -> Answer
     )
 }
 
-// Whether p, with the commands of h appended that are not in it yet, is over 32 commands.
-fn overflows(p: &[u64], h: &[u64]) -> bool
-    requires { ⌜ (length (now p) ≤ 32) × (length (now h) ≤ 32) ⌝ }
-    ensures { λ b. ⌜ b ≡ ltb limit (length (appended (now (p .entry)) (now (h .entry)))) ⌝ }
-{
-    let mut work = [0u64; history::WORK];
-    history::fill(&mut work, p);
-    let m = p.len();
-    let n = merge::append(&mut work, m, h);
-    History::LIMIT < n
-}
-
 // The answer to the heading of a PROPOSE.
 fn propose_heading(head: Heading) -> Answer
     ensures { λ a. ⌜ a ≡ answer (spec.proposeHeading (frameWith head [])) ⌝ }
@@ -169,7 +156,6 @@ fn propose_heading(head: Heading) -> Answer
 
 // The answer to a PROPOSE: the heading, then the commands, then what is pending.
 fn on_propose<'a>(pending: &'a [u64], head: Heading, h: &'a [u64]) -> Answer
-    requires { ⌜ (length (now pending) ≤ 32) × (length (now h) ≤ 32) ⌝ }
     ensures { λ a. ⌜ a ≡ answer (spec.proposeRules (now (pending .entry)) (frameWith head []) (now (h .entry))) ⌝ }
 {
     let heading = propose_heading(head);
@@ -184,7 +170,7 @@ fn on_propose<'a>(pending: &'a [u64], head: Heading, h: &'a [u64]) -> Answer
     }
     let reused = merge::reuses(pending, h);
     let nothing = merge::nothing_new(pending, h);
-    let full = overflows(pending, h);
+    let full = merge::overflows(words::LIMIT, pending, h);
     given(
         reused,
         Refusal::Reused,
@@ -273,7 +259,6 @@ fn judge<'a>(
     head: Heading,
     words: &'a [u64; 64],
 ) -> Answer
-    requires { ⌜ (length (now pending) ≤ 32) × (head .n ≤ 32) ⌝ }
     ensures { λ a. ⌜ a ≡ answer (spec.frameRules (spec.kindOf (head .kind)) r own marks (now (pending .entry)) (frameWith head (now (words .entry)))) ⌝ }
 {
     let n = head.n as usize;
@@ -305,7 +290,6 @@ fn check<'a>(
     head: Heading,
     words: &'a [u64; 64],
 ) -> Answer
-    requires { ⌜ head .n ≤ 32 ⌝ }
     ensures { λ a. ⌜ a ≡ answer (calls.rulesOn r own room (parts.stateOf marks (now (pending .entry)) count (now (proven .entry)) (now («proven_counts» .entry)) (now (held .entry)) (now («held_counts» .entry))) (readingWith head (now (words .entry)))) ⌝ }
 {
     let unfit = config(

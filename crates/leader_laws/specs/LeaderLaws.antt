@@ -7,11 +7,12 @@ use Prim.Native.Nat.{ℕ, _≤_, _<_}
 use native.Mathlib.Nat.{le-refl, le-of-lt}
 use native.Mathlib.Omega.{arith}
 use borrow.Author.Tests.{leb-true, leb-false, le-leb, ltb-true, ltb-false, eqb-true, eqb-false, not-true, not-false}
-use lib.Dec.{leb, ltb, eqb}
+use lib.Dec.{leb, eqb}
 use lib.ListN.{length, length-take}
 use Rattle.roster.specs.declared.Roster.{Roster}
 use Rattle.roster.specs.declared.Ballot.{Ballot}
 use Rattle.roster.specs.Roster.{quorum, leaderOf}
+use Rattle.roster.specs.Counts.{laterBallot, sameBallot}
 use Rattle.roster.specs.RosterLaws.{valid-figures}
 use Rattle.roster.specs.Mask.{bit, reaches, beyond}
 use Rattle.roster.specs.MaskLaws.{with-bit-same, with-bit-other, with-keeps, with-inside}
@@ -21,10 +22,11 @@ use Rattle.command.specs.CommandLaws.{right-commands}
 use Rattle.history.specs.declared.History.{History}
 use Rattle.history.specs.History.{Extends, repeated, isCanonical, validHistory}
 use Rattle.history.specs.ValidLaws.{valid-nil, valid-parts, parts-valid}
-use Rattle.history.specs.Words.{limit, commands, stored}
+use Rattle.words.specs.Sizes.{limit, capacity}
+use Rattle.history.specs.Words.{commands, stored}
 use Rattle.history.specs.WordsLaws.{commands-stored}
 use Rattle.merge.specs.Merge.{appended}
-use Rattle.merge.specs.Appending.{holds, reuses, nothingNew}
+use Rattle.merge.specs.Appending.{holds, reuses, nothingNew, overflows}
 use Rattle.merge.specs.AppendingLaws.{appended-holds}
 use Rattle.table.specs.declared.Table.{Table}
 use Rattle.table.specs.Table.{sites, storedAt, validTable}
@@ -120,7 +122,7 @@ pub record Requests (r : Roster) (own room : ℕ) (s : State) (line : List ℕ) 
   pub proper : (repeated (first (received line)) || eqb (length (first (received line))) 0) ≡ false
   pub unused : reuses (pendingOf s) (first (received line)) ≡ false
   pub something : nothingNew (pendingOf s) (first (received line)) ≡ false
-  pub fits : ltb limit (length (appended (pendingOf s) (first (received line)))) ≡ false
+  pub fits : overflows limit (pendingOf s) (first (received line)) ≡ false
   pub outcome : step r own room s line ≡ accept (waiting s (appended (pendingOf s) (first (received line)))) silent
 
 -- an accepted LEADER
@@ -314,14 +316,14 @@ module _ {r : Roster} {own room : ℕ} {s : State} {ballot : Ballot} {fast : ℕ
 -- ---- what CONFIG lets pass
 
 -- pending commands that may be lent
-pub record Pending (p : History) : Type 0 where
+pub record Pending (limit : ℕ) (p : History) : Type 0 where
   pub count-le : p .count ≤ limit
   pub right : allValid (commands p) ≡ true
   pub distinct : repeated (commands p) ≡ false
 
-pub pending-is : (p : History) → validPending p ≡ true → Pending p
+pub pending-is : (limit : ℕ) (p : History) → validPending limit p ≡ true → Pending limit p
 unfolding validPending
-pending-is p e =
+pending-is limit p e =
     let rest = and-right (leb (p .count) limit) _ e in
     record {
       count-le = leb-true (p .count) limit (and-left (leb (p .count) limit) _ e);
@@ -329,23 +331,24 @@ pending-is p e =
       distinct = not-true (repeated (commands p)) (and-right (allValid (commands p)) _ rest);
     }
 
-pub is-pending : (p : History) → Pending p → validPending p ≡ true
+pub is-pending : (limit : ℕ) (p : History) → Pending limit p → validPending limit p ≡ true
 unfolding validPending
-is-pending p c = rw (le-leb (p .count) limit (c .count-le), c .right, c .distinct)
+is-pending limit p c = rw (le-leb (p .count) limit (c .count-le), c .right, c .distinct)
 
--- there are at most 32 of them
-pub pending-length : (p : History) → validPending p ≡ true → length (commands p) ≤ limit
-pending-length p e = rw length-take (omega (arith, pending-is p e .count-le))
+-- there are no more of them than the limit
+pub pending-length : (limit : ℕ) (p : History) → validPending limit p ≡ true → length (commands p) ≤ limit
+pending-length limit p e = rw length-take (omega (arith, pending-is limit p e .count-le))
 
--- valid commands, at most 32, no proposer and serial twice, may be lent
-pub pending-stored : (h : List ℕ) → length h ≤ limit → allValid h ≡ true → repeated h ≡ false → validPending (stored h) ≡ true
-pending-stored h l a u =
-    is-pending (stored h)
-    (record { count-le = omega arith; right = rw (commands-stored h l) a; distinct = rw (commands-stored h l) u })
+-- valid commands within a limit that the words hold, no proposer and serial twice, may be lent
+pub pending-stored : (limit : ℕ) (h : List ℕ) → limit ≤ capacity → length h ≤ limit → allValid h ≡ true → repeated h ≡ false
+    → validPending limit (stored h) ≡ true
+pending-stored limit h c l a u =
+    let whole = commands-stored h (omega arith) in
+    is-pending limit (stored h) (record { count-le = omega arith; right = rw whole a; distinct = rw whole u })
 
 -- a state that may be lent, for n sites
 pub record Lendable (n : ℕ) (s : State) : Type 0 where
-  pub pending-valid : validPending (s .pending) ≡ true
+  pub pending-valid : validPending limit (s .pending) ≡ true
   pub inside : beyond (s .reported) n ≡ false
   pub proven-valid : validTable n (s .proven) ≡ true
   pub held-valid : validTable n (s .held) ≡ true
@@ -360,12 +363,12 @@ configured-is r own room s e =
     let outside = not (beyond (s .reported) (r .n)) in
     let a = not-false (seated r own room && _) e in
     let b = and-right (seated r own room) _ a in
-    let c = and-right (validPending (s .pending)) _ b in
+    let c = and-right (validPending limit (s .pending)) _ b in
     let d = and-right outside _ c in
     record {
       seat = and-left (seated r own room) _ a;
       lent = record {
-        pending-valid = and-left (validPending (s .pending)) _ b;
+        pending-valid = and-left (validPending limit (s .pending)) _ b;
         inside = not-true (beyond (s .reported) (r .n)) (and-left outside _ c);
         proven-valid = and-left (validTable (r .n) (s .proven)) _ d;
         held-valid = and-right (validTable (r .n) (s .proven)) _ d;
@@ -417,6 +420,12 @@ module _ {r : Roster} {own room : ℕ} {s : State} {line : List ℕ} (a : Report
         proven-valid = valid-stored (r .n) (s .proven) (m .sender) (first m) (c .proven-valid) site first-valid;
         held-valid = valid-stored (r .n) (s .held) (m .sender) (second m) (c .held-valid) site second-valid;
       }
+
+-- the commands of an accepted PROPOSE leave no more pending than the limit
+pub request-fits : {r : Roster} {own room : ℕ} {s : State} {line : List ℕ} → Requests r own room s line
+    → length (appended (pendingOf s) (first (received line))) ≤ limit
+unfolding overflows
+request-fits a = ltb-false limit _ (a .fits)
 
 -- ---- the reports
 
@@ -481,7 +490,7 @@ pub proposal-valid-of : (r : Roster) (s : State) → r .n ≤ sites → Lendable
 unfolding proposed
 proposal-valid-of r s l c =
     proposal-valid (r .n) (reportIn s (s .proven)) (reportIn s (s .held)) (pendingOf s) (reports-valid (r .n) s (s .proven) l (c .proven-valid))
-    (λ i p. valid-parts _ (reports-valid (r .n) s (s .held) l (c .held-valid) i p) .commands) (pending-is (s .pending) (c .pending-valid) .right)
+    (λ i p. valid-parts _ (reports-valid (r .n) s (s .held) l (c .held-valid) i p) .commands) (pending-is limit (s .pending) (c .pending-valid) .right)
 
 -- so after an accepted P1B
 pub proposal-history : {r : Roster} {own room : ℕ} {s : State} {line : List ℕ} → Reports r own room s line
@@ -505,7 +514,7 @@ p2a-carries r own s = first-is (proposed r s) (omega (arith, proposed-short r s)
 remaining-stored : (r : Roster) (own room : ℕ) (s : State) (h : List ℕ) → config r own room s ≡ false
     → commands (stored (remaining (pendingOf s) h)) ≡ remaining (pendingOf s) h
 remaining-stored r own room s h p =
-    let short = pending-length (s .pending) (configured-is r own room s p .lent .pending-valid) in
+    let short = pending-length limit (s .pending) (configured-is r own room s p .lent .pending-valid) in
     commands-stored (remaining (pendingOf s) h) (omega (arith, remaining-short (pendingOf s) h))
 
 module _ {r : Roster} {own room : ℕ} {s : State} {line : List ℕ} (c : ℕ) (e : holds (pendingOf s) c ≡ true) (a : Reports r own room s line) where
@@ -527,7 +536,7 @@ pub nothing-lost : (r : Roster) (own room : ℕ) (s : State) (line : List ℕ) (
 nothing-lost r own room s line c e =
     let h = first (received line) in
     replies (NotLost c) (λ _. waits e) (λ a. waits e) (λ a p q. on-proposal c e a) (λ a p. on-nothing c e a p)
-    (λ a. waits (rw (commands-stored (appended (pendingOf s) h) (ltb-false limit _ (a .fits))) (appended-holds (pendingOf s) h c e))) (λ a. waits e)
+    (λ a. waits (rw (commands-stored (appended (pendingOf s) h) (request-fits a)) (appended-holds (pendingOf s) h c e))) (λ a. waits e)
     (stepped r own room s line)
 
 -- an opening keeps what is pending
@@ -572,7 +581,7 @@ module _ (r : Roster) (own room : ℕ) (s : State) (ballot : Ballot) (fast : ℕ
   above : Opens r own room s ballot fast → s .ballot .0 < ballot .0
   unfolding mayOpen
   above a =
-      ltb-true (s .ballot .0) (ballot .0) (and-left (ltb (s .ballot .0) (ballot .0)) _ (not-false (mayOpen r own (marksOf s) ballot) (a .timely)))
+      ltb-true (s .ballot .0) (ballot .0) (and-left (laterBallot ballot (s .ballot)) _ (not-false (mayOpen r own (marksOf s) ballot) (a .timely)))
 
   -- the ballot never falls
   pub ballot-rises : s .ballot .0 ≤ opening r own room s ballot fast .state .ballot .0
@@ -652,7 +661,7 @@ report-awaited {r} {s = s} {line} a =
     let m = received line in
     let open-now = not-false (awaited r (marksOf s) (m .ballot) (m .sender)) (a .timely) in
     let of-ballot = and-right (isSet (s .classic)) _ open-now in
-    let first-time = and-right (eqb (m .ballot .0) (s .ballot .0)) _ of-ballot in
+    let first-time = and-right (sameBallot (m .ballot) (s .ballot)) _ of-ballot in
     not-true (reaches (s .reported) (quorum r)) (and-right (not (bit (s .reported) (m .sender))) _ first-time)
 
 -- a step that sends leaves the reports of a quorum

@@ -6,7 +6,7 @@ use mathlib.Core.Bool.{Bool, true, false, cond, _||_, Bool·beq}
 use mathlib.Core.List.{List, []}
 use Prim.Native.Nat.{ℕ, _^_, _≤_, _<_}
 use native.Mathlib.Omega.{arith}
-use borrow.Author.Tests.{le-leb, ltb-false, ne-eqb}
+use borrow.Author.Tests.{le-leb, ne-eqb}
 use lib.Dec.{eqb, lit<}
 use lib.ListN.{length}
 use lib.Pow.{pow-pos}
@@ -21,7 +21,8 @@ use Rattle.command.specs.Command.{wrong}
 use Rattle.command.specs.CommandLaws.{right-commands}
 use Rattle.basics.specs.Bools.{or-left, beq-true}
 use Rattle.history.specs.ValidLaws.{valid-nil, valid-parts}
-use Rattle.history.specs.Words.{limit, stored}
+use Rattle.words.specs.Sizes.{limit, capacity}
+use Rattle.history.specs.Words.{stored}
 use Rattle.history.specs.FitLaws.{EachFits, none, each-take, each-padded}
 use Rattle.merge.specs.Merge.{appended}
 use Rattle.merge.specs.MergeLaws.{appended-all-valid, appended-distinct}
@@ -73,6 +74,7 @@ use Rattle.leader_laws.specs.LeaderLaws.{
   opening-replies,
   pending-is,
   pending-length,
+  request-fits,
   pending-stored,
   Lendable,
   configured-is,
@@ -222,19 +224,19 @@ opening-line r own s ballot fast out f l h =
 -- ---- the state
 
 -- what stays pending after a proposal may be lent
-remaining-pending : (s : State) (h : List ℕ) → validPending (s .pending) ≡ true → validPending (stored (remaining (pendingOf s) h)) ≡ true
+remaining-pending : (s : State) (h : List ℕ) → validPending limit (s .pending) ≡ true → validPending limit (stored (remaining (pendingOf s) h)) ≡ true
 remaining-pending s h e =
-    let p = pending-is (s .pending) e in
-    pending-stored (remaining (pendingOf s) h) (omega (arith, remaining-short (pendingOf s) h, pending-length (s .pending) e))
+    let p = pending-is limit (s .pending) e in
+    pending-stored limit (remaining (pendingOf s) h) (omega arith) (omega (arith, remaining-short (pendingOf s) h, pending-length limit (s .pending) e))
     (remaining-all-valid (pendingOf s) h (p .right)) (remaining-distinct (pendingOf s) h (p .distinct))
 
 -- so may what is pending with the commands of a PROPOSE
 appended-pending : {r : Roster} {own room : ℕ} {s : State} {line : List ℕ} → Requests r own room s line
-    → validPending (stored (appended (pendingOf s) (first (received line)))) ≡ true
+    → validPending limit (stored (appended (pendingOf s) (first (received line)))) ≡ true
 appended-pending {r} {own} {room} {s} {line} a =
     let h = first (received line) in
-    let p = pending-is (s .pending) (configured-is r own room s (a .configured) .lent .pending-valid) in
-    pending-stored (appended (pendingOf s) h) (ltb-false limit _ (a .fits))
+    let p = pending-is limit (s .pending) (configured-is r own room s (a .configured) .lent .pending-valid) in
+    pending-stored limit (appended (pendingOf s) h) (omega arith) (request-fits a)
     (appended-all-valid (pendingOf s) h (p .right) (right-commands h (or-left (wrong h) _ (a .right))))
     (appended-distinct (pendingOf s) h (p .distinct))
 
@@ -288,7 +290,7 @@ pub fresh-lendable : (n : ℕ) → Lendable n fresh
 fresh-lendable n =
     let empty = valid-parts [] valid-nil in
     record {
-      pending-valid = pending-stored [] (omega arith) (empty .commands) (empty .distinct);
+      pending-valid = pending-stored limit [] (omega arith) (omega arith) (empty .commands) (empty .distinct);
       inside = beyond-false 0 n .1 (pow-pos n);
       proven-valid = valid-empty n;
       held-valid = valid-empty n;
@@ -304,7 +306,7 @@ fresh-fits own p =
       own-fits = p;
       view-fits = lit< tt;
       ballot-fits = lit< tt;
-      pending-fits = each-padded limit none;
+      pending-fits = each-padded capacity none;
       proven-fits = each-empty;
       held-fits = each-empty;
     }
@@ -316,7 +318,7 @@ waiting-fits f w =
       own-fits = f .own-fits;
       view-fits = f .view-fits;
       ballot-fits = f .ballot-fits;
-      pending-fits = each-padded limit w;
+      pending-fits = each-padded capacity w;
       proven-fits = f .proven-fits;
       held-fits = f .held-fits;
     }

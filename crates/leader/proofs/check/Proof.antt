@@ -1,8 +1,6 @@
 -- `leader::check` meets its contract: a refusal by CONFIG or FORM is the answer, else that by the frame.
 -- Assumes nothing.
 use mathlib.Core.Path.{refl}
-use native.Mathlib.Omega.{arith}
-use lib.ListN.{length-take}
 use Rattle.refusal.specs.AnswerLaws.{rule, no-rule, stops, goes-on}
 use borrow.Author.Needs.{needs}
 use Rattle.leader.proofs.check.Statement.{statement}
@@ -28,7 +26,7 @@ first-requires : tie.Need-first-requires
 first-requires c κs = search needs
 
 judge-requires : tie.Need-judge-requires
-judge-requires c κs = (rw (c .first .ensures, length-take) (omega arith), c .before .before .before .before .before .before .before .before .pre)
+judge-requires c κs = search needs
 
 returns-2 : tie.Need-returns-2
 returns-2 c =

@@ -1,7 +1,5 @@
 -- `leader::judge` meets its contract: it hands the frame on by its kind.
 -- Assumes nothing.
-use native.Mathlib.Omega.{arith}
-use lib.ListN.{length-take}
 use borrow.Author.Needs.{needs}
 use Rattle.leader.proofs.judge.Statement.{statement}
 use Rattle.leader.proofs.judge.Tie as tie
@@ -25,7 +23,7 @@ returns : tie.Need-returns
 returns c = rw (c .before .before .before .before .if1 .taken, ← c .before .before .before .before .before .before .first .ensures, ← c .before .after .ensures) (c .on-report .ensures)
 
 on-propose-requires : tie.Need-on-propose-requires
-on-propose-requires c κs = (c .before .before .before .before .before .before .before .before .pre .0, rw (c .before .before .before .before .first .ensures, length-take) (omega (arith, c .before .before .before .before .before .before .before .before .pre .1)))
+on-propose-requires c κs = search needs
 
 returns-2 : tie.Need-returns-2
 returns-2 c = rw (c .before .before .before .if1 .left, c .before .if2 .taken, ← c .before .before .before .before .before .first .ensures) (c .on-propose .ensures)

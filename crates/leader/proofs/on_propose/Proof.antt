@@ -32,7 +32,7 @@ nothing-new-requires : tie.Need-nothing-new-requires
 nothing-new-requires c κs = search needs
 
 overflows-requires : tie.Need-overflows-requires
-overflows-requires c κs = c .before .before .before .before .before .before .before .before .before .before .pre
+overflows-requires c κs = search needs
 
 given-requires : tie.Need-given-requires
 given-requires c κs = search needs

@@ -10,9 +10,7 @@ use Rattle.leader.proofs.pending_valid.Tie as tie
 returns : tie.Need-returns
 unfolding validPending
 returns c =
-    let given = c .before .args in
-    let if1 = c .if1 in
-    rw (not-true (leb (given .count) 32) (if1 .taken))
+    rw (not-true (leb (c .before .args .count) (c .before .args .limit)) (c .if1 .taken))
 
 first-requires : tie.Need-first-requires
 first-requires c κs = search needs
@@ -26,12 +24,7 @@ repeated-requires c κs = search needs
 returns-2 : tie.Need-returns-2
 unfolding validPending
 returns-2 c =
-    let given = c .before .before .before .before .before .args in
-    let if1 = c .before .before .before .before .if1 in
-    let all-valid-call = c .before .all-valid in
-    let repeated-call = c .repeated in
-    let first-call = c .before .before .first in
-    rw (not-false (leb (given .count) 32) (if1 .left), all-valid-call .ensures, repeated-call .ensures, first-call .ensures)
+    rw (not-false (leb (c .before .before .before .before .before .args .count) (c .before .before .before .before .before .args .limit)) (c .before .before .before .before .if1 .left), c .before .all-valid .ensures, c .repeated .ensures, c .before .before .first .ensures)
 
 pub pending-valid-spec : {M : Type 1} → statement M
 pending-valid-spec =

@@ -1,9 +1,5 @@
 -- `leader::step_in_place` meets its contract: a refused line changes nothing, and an accepted frame does what its kind says.
 -- Assumes nothing.
-use mathlib.Core.Path.{ap}
-use Rattle.frame.specs.declared.Reading.{Reading}
-use Rattle.frame.specs.FormatLaws.{read-n}
-use Rattle.leader.specs.Leader.{taken}
 use Rattle.leader.specs.Parts.{stateOf}
 use Rattle.leader.proofs.Calls.{steps-refused, steps-accepted}
 use borrow.Author.Needs.{needs}
@@ -14,7 +10,7 @@ read-into-requires : tie.Need-read-into-requires
 read-into-requires c κs = search needs
 
 check-requires : tie.Need-check-requires
-check-requires c κs = rw (ap (λ (o : Reading). o .frame .n) (c .before .before .before .before .before .before .before .read-into .ensures)) (read-n (c .before .before .before .before .before .before .before .before .before .before .before .args .line .now) taken)
+check-requires c κs = search needs
 
 refuses-requires : tie.Need-refuses-requires
 refuses-requires c κs = search needs
