@@ -101,9 +101,9 @@ module _ (P₃ : Argument) (Rel : (κ : Lft) → State → Roster → ℕ → P�
   abbrev step-says : (κs : Lfts 2) → Args (step-ended .signature) κs → LeaderOutcome → AtExit step-ended κs → Type 0
   step-says κs a d e =
       Rel (κs .1 .0)
-      (stateOf (a .0) (now (a .1 .0)) (now (a .1 .1 .0)) (now (a .1 .1 .1 .0)) (now (a .1 .1 .1 .1 .0)) (now (a .1 .1 .1 .1 .1 .0)) (now (a .1 .1 .1 .1 .1 .1 .0)))
+      (stateOf (a .0) (now (a .1 .1 .0)) (now (a .1 .0)) (now (a .1 .1 .1 .1 .0)) (now (a .1 .1 .1 .0)) (now (a .1 .1 .1 .1 .1 .1 .0)) (now (a .1 .1 .1 .1 .1 .0)))
       (a .1 .1 .1 .1 .1 .1 .1 .0) (a .1 .1 .1 .1 .1 .1 .1 .1 .0) (a .1 .1 .1 .1 .1 .1 .1 .1 .1 .0) (now (a .1 .1 .1 .1 .1 .1 .1 .1 .1 .1 .0)) (reply d)
-      (stateOf (d .marks) (now (e .1 .0)) (now (e .1 .1 .0)) (now (e .1 .1 .1 .0)) (now (e .1 .1 .1 .1 .0)) (now (e .1 .1 .1 .1 .1 .0)) (now (e .1 .1 .1 .1 .1 .1 .0)))
+      (stateOf (d .marks) (now (e .1 .1 .0)) (now (e .1 .0)) (now (e .1 .1 .1 .1 .0)) (now (e .1 .1 .1 .0)) (now (e .1 .1 .1 .1 .1 .1 .0)) (now (e .1 .1 .1 .1 .1 .0)))
       (now (e .1 .1 .1 .1 .1 .1 .1 .1 .1 .1 .0))
 
   abbrev Step : {M : Type 1} (𝓤 : URA M) (H : Heap 𝓤) (A : Atoms 𝓤) → Contract 𝓤
@@ -228,10 +228,10 @@ module _ (P₃ : Argument) (Rel : (κ : Lft) → State → Roster → ℕ → P�
           pick ! (λ d. split ! $ move ! (1 ∷ []) $
           use1 W (some (λ (zs : Unit {0} × (ℕ × (List ℕ × (List ℕ × (List ℕ × (List ℕ × (List ℕ × (Unit {0} × (Unit {0} × (Unit {0} × (List ℕ × Unit {0}))))))))))).
           ‵ (lasts step-ended (ν ∷ [], (κ, tt)) (to-step ν γ₁ γ₂ γ₃ γ₄ γ₅ γ₆ .0 .3) zs) ⊛
-          raw (fact 𝓤 (Rel κ h x₁ x₂ x₃ ys (reply d) (stateOf (d .marks) (zs .1 .0) (zs .1 .1 .0) (zs .1 .1 .1 .0) (zs .1 .1 .1 .1 .0) (zs .1 .1 .1 .1 .1 .0)
-          (zs .1 .1 .1 .1 .1 .1 .0)) (zs .1 .1 .1 .1 .1 .1 .1 .1 .1 .1 .0))))) (id⊢ 𝓤 _) $ pick ! (λ zs.
+          raw (fact 𝓤 (Rel κ h x₁ x₂ x₃ ys (reply d) (stateOf (d .marks) (zs .1 .1 .0) (zs .1 .0) (zs .1 .1 .1 .1 .0) (zs .1 .1 .1 .0) (zs .1 .1 .1 .1 .1 .1 .0)
+          (zs .1 .1 .1 .1 .1 .0)) (zs .1 .1 .1 .1 .1 .1 .1 .1 .1 .1 .0))))) (id⊢ 𝓤 _) $ pick ! (λ zs.
           let left : Marks → State =
-          λ k. stateOf k (zs .1 .0) (zs .1 .1 .0) (zs .1 .1 .1 .0) (zs .1 .1 .1 .1 .0) (zs .1 .1 .1 .1 .1 .0) (zs .1 .1 .1 .1 .1 .1 .0) in
+          λ k. stateOf k (zs .1 .1 .0) (zs .1 .0) (zs .1 .1 .1 .1 .0) (zs .1 .1 .1 .0) (zs .1 .1 .1 .1 .1 .1 .0) (zs .1 .1 .1 .1 .1 .0) in
           let t : State = left (d .marks) in
           let mid : State = left (marksOf h) in
           split ! $ move ! (1 ∷ []) $ heard ! (Rel κ h x₁ x₂ x₃ ys (reply d) t (zs .1 .1 .1 .1 .1 .1 .1 .1 .1 .1 .0)) (λ e.

@@ -287,18 +287,18 @@ fn leader_in_parts<'p, 'a>(
     line: &'a [u8],
     out: &'a mut [u8],
 ) -> LeaderOutcome
-    ensures { λ o. ⌜ leads (leader-parts.stateOf marks (now (count .entry)) (now (pending .entry)) (now (pcounts .entry)) (now (proven .entry)) (now (hcounts .entry)) (now (held .entry))) roster own (now (line .entry)) (now (out .entry)) (record { answer = o .answer; sent = o .sent }) (leader-parts.stateOf (o .marks) (now (count .exit)) (now (pending .exit)) (now (pcounts .exit)) (now (proven .exit)) (now (hcounts .exit)) (now (held .exit))) (now (out .exit)) ⌝ }
+    ensures { λ o. ⌜ leads (leader-parts.stateOf marks (now (pending .entry)) (now (count .entry)) (now (proven .entry)) (now (pcounts .entry)) (now (held .entry)) (now (hcounts .entry))) roster own (now (line .entry)) (now (out .entry)) (record { answer = o .answer; sent = o .sent }) (leader-parts.stateOf (o .marks) (now (pending .exit)) (now (count .exit)) (now (proven .exit)) (now (pcounts .exit)) (now (held .exit)) (now (hcounts .exit))) (now (out .exit)) ⌝ }
 {
     let o = leader::step_in_place(
         roster,
         own,
         marks,
-        count,
         pending,
-        pcounts,
+        count,
         proven,
-        hcounts,
+        pcounts,
         held,
+        hcounts,
         line,
         out,
     );
@@ -366,19 +366,19 @@ fn opening_in_parts<'p, 'a>(
     opening: Opening,
     out: &'a mut [u8],
 ) -> LeaderOutcome
-    ensures { λ o. ⌜ opens (leader-parts.stateOf marks (now (count .entry)) (now (pending .entry)) (now (pcounts .entry)) (now (proven .entry)) (now (hcounts .entry)) (now (held .entry))) roster own opening (now (out .entry)) (record { answer = o .answer; sent = o .sent }) (leader-parts.stateOf (o .marks) (now (count .exit)) (now (pending .exit)) (now (pcounts .exit)) (now (proven .exit)) (now (hcounts .exit)) (now (held .exit))) (now (out .exit)) ⌝ }
+    ensures { λ o. ⌜ opens (leader-parts.stateOf marks (now (pending .entry)) (now (count .entry)) (now (proven .entry)) (now (pcounts .entry)) (now (held .entry)) (now (hcounts .entry))) roster own opening (now (out .entry)) (record { answer = o .answer; sent = o .sent }) (leader-parts.stateOf (o .marks) (now (pending .exit)) (now (count .exit)) (now (proven .exit)) (now (pcounts .exit)) (now (held .exit)) (now (hcounts .exit))) (now (out .exit)) ⌝ }
 {
     let ballot = opening.ballot;
     let o = leader::open_in_place(
         roster,
         own,
         marks,
-        count,
         pending,
-        pcounts,
+        count,
         proven,
-        hcounts,
+        pcounts,
         held,
+        hcounts,
         ballot,
         opening.fast,
         out,
