@@ -16,23 +16,23 @@ cast-after c = search needs
 after-requires : tie.Need-after-requires
 after-requires c κs = search needs
 
-on-report-requires : tie.Need-on-report-requires
-on-report-requires c κs = search needs
+check-requires : tie.Need-check-requires
+check-requires c κs = search needs
 
 returns : tie.Need-returns
-returns c = rw (c .before .before .before .before .if1 .taken, ← c .before .before .before .before .before .before .first .ensures, ← c .before .after .ensures) (c .on-report .ensures)
+returns c = rw (c .before .before .before .before .if1 .taken, ← c .before .before .before .before .before .before .first .ensures, ← c .before .after .ensures) (c .check .ensures)
 
-on-propose-requires : tie.Need-on-propose-requires
-on-propose-requires c κs = search needs
+check-requires-2 : tie.Need-check-requires-2
+check-requires-2 c κs = search needs
 
 returns-2 : tie.Need-returns-2
-returns-2 c = rw (c .before .before .before .if1 .left, c .before .if2 .taken, ← c .before .before .before .before .before .first .ensures) (c .on-propose .ensures)
+returns-2 c = rw (c .before .before .before .if1 .left, c .before .if2 .taken, ← c .before .before .before .before .before .first .ensures) (c .check2 .ensures)
 
-on-leader-requires : tie.Need-on-leader-requires
-on-leader-requires c κs = search needs
+check-requires-3 : tie.Need-check-requires-3
+check-requires-3 c κs = search needs
 
 returns-3 : tie.Need-returns-3
-returns-3 c = rw (c .before .before .before .if1 .left, c .before .if2 .left) (c .on-leader .ensures)
+returns-3 c = rw (c .before .before .before .if1 .left, c .before .if2 .left) (c .check3 .ensures)
 
 pub judge-spec : {M : Type 1} → statement M
 judge-spec =
@@ -42,9 +42,9 @@ judge-spec =
     first-requires
     cast-after
     after-requires
-    on-report-requires
+    check-requires
     returns
-    on-propose-requires
+    check-requires-2
     returns-2
-    on-leader-requires
+    check-requires-3
     returns-3)
