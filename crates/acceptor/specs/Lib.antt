@@ -1,6 +1,4 @@
 -- What the contracts of `acceptor` cite, and the laws of it.
 pub mod Acceptor
 pub mod Parts
-pub mod Verdict
 pub mod AcceptorLaws
-pub mod VerdictLaws

@@ -1,19 +1,25 @@
 // The acceptor: it takes ballots, holds a history, and proves one that a quorum of sites verify.
-ghost use mathlib.Core.Bool.{false};
+ghost use mathlib.Core.List.{[]};
 ghost use mathlib.Core.Path.{_≡_};
 ghost use Prim.Native.Nat.{min, _≤_};
+ghost use lib.Dec.{ltb};
 ghost use lib.ListN.{length, take};
 ghost use Rattle.roster.specs.Sites.{maskTo};
-ghost use Rattle.history.specs.Words.{historyOf};
-ghost use Rattle.table.specs.Table.{tableOf};
-ghost use Rattle.site.specs.Reply.{Handed, sends};
+ghost use Rattle.history.specs.History.{canonical};
+ghost use Rattle.history.specs.Words.{historyOf, limit, stored};
+ghost use Rattle.merge.specs.Merge.{appended};
+ghost use Rattle.table.specs.Table.{emptyTable, row, storedAt, tableOf};
+ghost use Rattle.refusal.specs.Rules.{answer};
+ghost use Rattle.frame.specs.Format.{frameWith, readingWith};
+ghost use Rattle.site.specs.Message.{message};
+ghost use Rattle.site.specs.Reply.{Handed, accept, sends, sendsIf};
 ghost use Rattle.acceptor.specs.Acceptor as spec;
 ghost use Rattle.acceptor.specs.Parts as parts;
-ghost use Rattle.acceptor.specs.Verdict as verdict;
 use frame::Heading;
 use history::History;
 use refusal::Answer;
 use refusal::Refusal;
+use refusal::given;
 use roster::Ballot;
 use roster::Roster;
 use roster::View;
@@ -62,20 +68,6 @@ pub struct Settled {
     pub marks: Marks,
 }
 
-// What is decided of a line before the state is changed: the answer; the marks after it; whether the table is emptied; whether the history becomes
-// held, proven, and the entry of a site; how many words that history has; and the kind of the frame that goes out, 0 for none.
-struct Verdict {
-    answer: Answer,
-    marks: Marks,
-    opens: bool,
-    signs: bool,
-    proves: bool,
-    stores: bool,
-    site: u8,
-    count: usize,
-    kind: u8,
-}
-
 // The kinds of frames taken and sent.
 const P1A: u8 = 1;
 
@@ -94,206 +86,95 @@ const P2B: u8 = 7;
 // P1A, FAST, PROPOSE, P2A and VERIFY, which are bits 1, 2, 4, 5 and 6.
 const TAKEN: u16 = 118;
 
-// The verdict that changes nothing.
-fn idle(marks: Marks, answer: Answer) -> Verdict
-    ensures { λ d. ⌜ d ≡ verdict.idle marks answer .verdict ⌝ }
-{
-    Verdict {
-        answer,
-        marks,
-        opens: false,
-        signs: false,
-        proves: false,
-        stores: false,
-        site: 0,
-        count: 0,
-        kind: 0,
-    }
-}
-
-// The verdict that refuses.
-fn against(marks: Marks, e: Refusal) -> Verdict
-    ensures { λ d. ⌜ d ≡ verdict.against marks e .verdict ⌝ }
-{
-    idle(marks, Answer::Refused(e))
-}
-
 // Whether a frame for a view is not from the view's leader.
 fn outsider(r: Roster, site: u8, view: View) -> bool
-    ensures { λ b. ⌜ b ≡ verdict.outsider r site view ⌝ }
+    ensures { λ b. ⌜ b ≡ spec.notLeader r site view ⌝ }
 {
     (r.n <= site) | !(site == r.leader_of(view))
 }
 
-// The verdict that takes a ballot: what was signed and verified before is forgotten, and a frame of this kind goes out (0: none).
-fn take(marks: Marks, ballot: Ballot, fast: u8, kind: u8) -> Verdict
-    ensures { λ d. ⌜ d ≡ verdict.opening marks ballot fast kind .verdict ⌝ }
-{
-    let certified = marks.certified;
-    Verdict {
-        answer: Answer::Accepted,
-        marks: Marks {
-            ballot,
-            fast,
-            signed: 0,
-            certified,
-            certificate: marks.certificate,
-        },
-        opens: true,
-        signs: false,
-        proves: false,
-        stores: false,
-        site: 0,
-        count: 0,
-        kind,
-    }
-}
-
-// The verdict on a P1A or FAST, which opens a ballot and answers a frame of this kind.
-fn start(r: Roster, view: View, marks: Marks, head: Heading, fast: u8, kind: u8) -> Verdict
-    ensures { λ d. ⌜ d ≡ verdict.onOpening r view marks head fast kind .verdict ⌝ }
+// The answer to a P1A or FAST.
+fn on_opening(r: Roster, view: View, marks: Marks, head: Heading) -> Answer
+    ensures { λ a. ⌜ a ≡ answer (spec.openingRules r view marks (frameWith head [])) ⌝ }
 {
     let unknown = outsider(r, head.sender, head.view);
-    if unknown {
-        return against(marks, Refusal::Sender);
-    }
     let stale = !((head.view.0 == view.0) & (marks.ballot.0 < head.ballot.0));
-    if stale {
-        return against(marks, Refusal::Stale);
-    }
-    take(marks, head.ballot, fast, kind)
+    given(
+        unknown,
+        Refusal::Sender,
+        given(stale, Refusal::Stale, Answer::Accepted),
+    )
 }
 
-// The verdict that stores h as a site's entry, and leaves these marks.
-fn put(marks: Marks, site: u8, h: &[u64], signs: bool, proves: bool, kind: u8) -> Verdict
-    ensures { λ d. ⌜ d ≡ verdict.putting marks site (now (h .entry)) signs proves kind .verdict ⌝ }
+// Whether what is held, with the commands of h appended that are not in it yet, is over 32 commands.
+fn overflows(held: &[u64], h: &[u64]) -> bool
+    requires { ⌜ (length (now held) ≤ 32) × (length (now h) ≤ 32) ⌝ }
+    ensures { λ b. ⌜ b ≡ ltb limit (length (appended (now (held .entry)) (now (h .entry)))) ⌝ }
 {
-    Verdict {
-        answer: Answer::Accepted,
-        marks,
-        opens: false,
-        signs,
-        proves,
-        stores: true,
-        site,
-        count: h.len(),
-        kind,
-    }
+    let mut work = [0u64; history::WORK];
+    history::fill(&mut work, held);
+    let m = held.len();
+    let n = merge::append(&mut work, m, h);
+    History::LIMIT < n
 }
 
-// The verdict that signs h: it becomes held and the own entry, and a VERIFY goes out.
-fn sign(own: u8, marks: Marks, h: &[u64]) -> Verdict
-    ensures { λ d. ⌜ d ≡ verdict.signing own marks (now (h .entry)) .verdict ⌝ }
-{
-    let ballot = marks.ballot;
-    let certified = marks.certified;
-    let after = Marks {
-        ballot,
-        fast: marks.fast,
-        signed: 1,
-        certified,
-        certificate: marks.certificate,
-    };
-    put(after, own, h, true, false, VERIFY)
-}
-
-// The verdict on what is held with the new commands: it is signed in canonical order, if it is not too long. Leaves `work` in that order.
-fn arrange(own: u8, marks: Marks, work: &mut [u64]) -> Verdict
-    ensures { λ d. ⌜ (d ≡ verdict.onUnion own marks (now (work .entry)) .verdict) × (now (work .exit) ≡ verdict.arranged (now (work .entry))) ⌝ }
-{
-    let full = History::LIMIT < work.len();
-    if full {
-        return against(marks, Refusal::Full);
-    }
-    history::put_in_order(work);
-    sign(own, marks, work)
-}
-
-// Writes what is held over the first n words of buf, with those of them that are new appended, and answers how many words that is.
-fn unite(held: &[u64], n: usize, buf: &mut [u64]) -> usize
-    requires { ⌜ (length (now held) ≤ 32) × (n ≤ 32) × (length (now buf) ≡ 64) ⌝ }
-    ensures { λ k. ⌜ verdict.United (now (held .entry)) (take n (now (buf .entry))) k (now (buf .exit)) ⌝ }
-{
-    let mut more = [0u64; 32];
-    history::fill(&mut more, &buf[..n]);
-    history::fill(buf, held);
-    merge::append(buf, held.len(), &more[..n])
-}
-
-// The verdict on the n commands of buf, of which some are new: they are appended to what is held.
-fn grow(own: u8, marks: Marks, held: &[u64], n: usize, buf: &mut [u64]) -> Verdict
-    requires { ⌜ (length (now held) ≤ 32) × (n ≤ 32) × (length (now buf) ≡ 64) ⌝ }
-    ensures { λ d. ⌜ verdict.ruled d (now (buf .exit)) ≡ verdict.onGrowth own marks (now (held .entry)) (take n (now (buf .entry))) ⌝ }
-{
-    let k = unite(held, n, buf);
-    arrange(own, marks, &mut buf[..k])
-}
-
-// The verdict on the n commands of buf that are proposed, against the held history and the proven one.
-fn lengthen(
-    own: u8,
-    marks: Marks,
-    held: &[u64],
-    proven: &[u64],
-    n: usize,
-    buf: &mut [u64],
-) -> Verdict
-    requires { ⌜ (length (now held) ≤ 32) × (n ≤ 32) × (length (now buf) ≡ 64) ⌝ }
-    ensures { λ d. ⌜ verdict.ruled d (now (buf .exit)) ≡ verdict.onCommands own marks (now (held .entry)) (now (proven .entry)) (take n (now (buf .entry))) ⌝ }
-{
-    let ahead = history::extends(held, proven);
-    if !ahead {
-        return against(marks, Refusal::Behind);
-    }
-    let h = &buf[..n];
-    let reused = merge::reuses(held, h);
-    if reused {
-        return against(marks, Refusal::Reused);
-    }
-    let nothing = merge::nothing_new(held, h);
-    if nothing {
-        return against(marks, Refusal::Nothing);
-    }
-    grow(own, marks, held, n, buf)
-}
-
-// The verdict on a PROPOSE with the words of buf: sender, ballot, commands and requests, and then the histories.
-fn propose(
-    own: u8,
-    marks: Marks,
-    held: &[u64],
-    proven: &[u64],
-    head: Heading,
-    buf: &mut [u64],
-) -> Verdict
-    requires { ⌜ (length (now held) ≤ 32) × (head .n ≤ 32) × (length (now buf) ≡ 64) ⌝ }
-    ensures { λ d. ⌜ verdict.ruled d (now (buf .exit)) ≡ verdict.onProposal own marks (now (held .entry)) (now (proven .entry)) head (verdict.carriedIn head (now (buf .entry))) ⌝ }
+// The answer to the heading of a PROPOSE.
+fn propose_heading(marks: Marks, head: Heading) -> Answer
+    ensures { λ a. ⌜ a ≡ answer (spec.proposeHeading marks (frameWith head [])) ⌝ }
 {
     let nobody = head.sender == 0;
-    if nobody {
-        return against(marks, Refusal::Sender);
-    }
     let stale = !((head.ballot.0 == marks.ballot.0) & !(marks.fast == 0));
-    if stale {
-        return against(marks, Refusal::Stale);
+    given(
+        nobody,
+        Refusal::Sender,
+        given(stale, Refusal::Stale, Answer::Accepted),
+    )
+}
+
+// The answer to a PROPOSE: the heading, then the commands, then the histories.
+fn on_propose<'a>(
+    marks: Marks,
+    held: &'a [u64],
+    proven: &'a [u64],
+    head: Heading,
+    h: &'a [u64],
+) -> Answer
+    requires { ⌜ (length (now held) ≤ 32) × (length (now h) ≤ 32) ⌝ }
+    ensures { λ a. ⌜ a ≡ answer (spec.proposeRules marks (now (held .entry)) (now (proven .entry)) (frameWith head []) (now (h .entry))) ⌝ }
+{
+    let heading = propose_heading(marks, head);
+    let stops = heading.refuses();
+    if stops {
+        return heading;
     }
-    let n = head.n as usize;
-    let h = &buf[..n];
-    let wrong = !command::all_valid(h) | !command::all_by(head.sender, h);
-    if wrong {
-        return against(marks, Refusal::Command);
+    let commands = content::requested(head.sender, h);
+    let ends = commands.refuses();
+    if ends {
+        return commands;
     }
-    let improper = history::repeated(h) | (h.len() == 0);
-    if improper {
-        return against(marks, Refusal::History);
-    }
-    lengthen(own, marks, held, proven, n, buf)
+    let lags = !history::extends(held, proven);
+    let reused = merge::reuses(held, h);
+    let nothing = merge::nothing_new(held, h);
+    let full = overflows(held, h);
+    given(
+        lags,
+        Refusal::Behind,
+        given(
+            reused,
+            Refusal::Reused,
+            given(
+                nothing,
+                Refusal::Nothing,
+                given(full, Refusal::Full, Answer::Accepted),
+            ),
+        ),
+    )
 }
 
 // Whether h does not extend the proven history or, if one was signed in this ballot, the held one.
 fn behind(signed: u8, held: &[u64], proven: &[u64], h: &[u64]) -> bool
     requires { ⌜ length (now h) ≤ 32 ⌝ }
-    ensures { λ b. ⌜ b ≡ verdict.lags signed (now (held .entry)) (now (proven .entry)) (now (h .entry)) ⌝ }
+    ensures { λ b. ⌜ b ≡ spec.lags signed (now (held .entry)) (now (proven .entry)) (now (h .entry)) ⌝ }
 {
     let ahead = history::extends(h, proven);
     if !ahead {
@@ -306,225 +187,132 @@ fn behind(signed: u8, held: &[u64], proven: &[u64], h: &[u64]) -> bool
     !history::extends(h, held)
 }
 
-// The verdict on the history of a P2A: its commands, whether it is a history in canonical order, and what it must extend.
-fn obey(own: u8, marks: Marks, held: &[u64], proven: &[u64], h: &[u64]) -> Verdict
-    requires { ⌜ length (now h) ≤ 32 ⌝ }
-    ensures { λ d. ⌜ d ≡ verdict.onOrdered own marks (now (held .entry)) (now (proven .entry)) (now (h .entry)) .verdict ⌝ }
-{
-    let valid = command::all_valid(h);
-    if !valid {
-        return against(marks, Refusal::Command);
-    }
-    let improper = history::improper(h);
-    if improper {
-        return against(marks, Refusal::History);
-    }
-    let lags = behind(marks.signed, held, proven, h);
-    if lags {
-        return against(marks, Refusal::Behind);
-    }
-    sign(own, marks, h)
-}
-
-// The verdict on a P2A: sender, view and ballot, and then the history.
-fn order(
-    r: Roster,
-    own: u8,
-    view: View,
-    marks: Marks,
-    held: &[u64],
-    proven: &[u64],
-    head: Heading,
-    h: &[u64],
-) -> Verdict
-    requires { ⌜ length (now h) ≤ 32 ⌝ }
-    ensures { λ d. ⌜ d ≡ verdict.onOrder r own view marks (now (held .entry)) (now (proven .entry)) head (now (h .entry)) .verdict ⌝ }
+// The answer to the heading of a P2A.
+fn order_heading(r: Roster, view: View, marks: Marks, head: Heading) -> Answer
+    ensures { λ a. ⌜ a ≡ answer (spec.orderHeading r view marks (frameWith head [])) ⌝ }
 {
     let unknown = outsider(r, head.sender, head.view);
-    if unknown {
-        return against(marks, Refusal::Sender);
-    }
     let present = head.ballot.0 == marks.ballot.0;
     let stale = !((head.view.0 == view.0) & (present & (marks.fast == 0)));
-    if stale {
-        return against(marks, Refusal::Stale);
-    }
-    obey(own, marks, held, proven, h)
+    given(
+        unknown,
+        Refusal::Sender,
+        given(stale, Refusal::Stale, Answer::Accepted),
+    )
 }
 
-// Whether site i's entry is h once `site` has verified it.
-fn agrees<'a>(words: &'a [u64], counts: &'a [u8], site: u8, h: &[u64], i: u8) -> bool
-    ensures { λ b. ⌜ b ≡ verdict.agrees (now (words .entry)) (now (counts .entry)) site (now (h .entry)) i ⌝ }
-{
-    let sender = i == site;
-    if sender {
-        return true;
-    }
-    history::same(table::row(words, counts, i as usize), h)
-}
-
-// The mask of the sites below n whose entry is h once `site` has verified it.
-fn certify<'a>(words: &'a [u64], counts: &'a [u8], n: u8, site: u8, h: &[u64]) -> u16
-    requires { ⌜ n ≤ 16 ⌝ }
-    ensures { λ k. ⌜ k ≡ maskTo n (verdict.agrees (now (words .entry)) (now (counts .entry)) site (now (h .entry))) ⌝ }
-{
-    let mut mask: u16 = 0;
-    let mut next: u8 = 0;
-    while next < n {
-        let i = next;
-        let equal = agrees(words, counts, site, h, i);
-        next += 1;
-        if equal {
-            mask = roster::with_site(mask, i);
-        }
-    }
-    mask
-}
-
-// Whether h, which the sites of the mask verified, becomes proven.
-fn convinces(r: Roster, marks: Marks, proven: &[u64], mask: u16, h: &[u64]) -> bool
+// The answer to a P2A: the heading, then the commands, then what the history must extend.
+fn on_order<'a>(
+    r: Roster,
+    view: View,
+    marks: Marks,
+    held: &'a [u64],
+    proven: &'a [u64],
+    head: Heading,
+    h: &'a [u64],
+) -> Answer
     requires { ⌜ length (now h) ≤ 32 ⌝ }
-    ensures { λ b. ⌜ b ≡ verdict.convinces r marks (now (proven .entry)) mask (now (h .entry)) ⌝ }
+    ensures { λ a. ⌜ a ≡ answer (spec.orderRules r view marks (now (held .entry)) (now (proven .entry)) (frameWith head []) (now (h .entry))) ⌝ }
 {
-    let enough = roster::reaches(mask, r.quorum());
-    if !enough {
-        return false;
+    let heading = order_heading(r, view, marks, head);
+    let stops = heading.refuses();
+    if stops {
+        return heading;
     }
-    let grows = history::extends(h, proven);
-    if !grows {
-        return false;
+    let commands = content::ordered(h);
+    let ends = commands.refuses();
+    if ends {
+        return commands;
     }
-    let equal = history::same(proven, h);
-    if !equal {
-        return true;
-    }
-    let ballot = marks.ballot;
-    let certified = marks.certified;
-    !(certified.0 == ballot.0)
+    let lags = behind(marks.signed, held, proven, h);
+    given(lags, Refusal::Behind, Answer::Accepted)
 }
 
-// The verdict on a VERIFY that is stored: its history becomes proven and a P2B goes out, or not yet.
-fn keep<'a>(
-    r: Roster,
-    marks: Marks,
-    proven: &[u64],
-    words: &'a [u64],
-    counts: &'a [u8],
-    site: u8,
-    h: &[u64],
-) -> Verdict
-    requires { ⌜ (r .n ≤ 16) × (length (now h) ≤ 32) ⌝ }
-    ensures { λ d. ⌜ d ≡ verdict.onStore r marks (now (proven .entry)) (now (words .entry)) (now (counts .entry)) site (now (h .entry)) .verdict ⌝ }
+// Whether neither of h and a site's entry extends the other.
+fn contradicts<'a>(h: &'a [u64], entry: &'a [u64]) -> bool
+    requires { ⌜ (length (now h) ≤ 32) × (length (now entry) ≤ 32) ⌝ }
+    ensures { λ b. ⌜ b ≡ spec.contradicts (now (h .entry)) (now (entry .entry)) ⌝ }
 {
-    let mask = certify(words, counts, r.n, site, h);
-    let proves = convinces(r, marks, proven, mask, h);
-    if !proves {
-        return put(marks, site, h, false, false, 0);
-    }
-    let ballot = marks.ballot;
-    let after = Marks {
-        ballot,
-        fast: marks.fast,
-        signed: marks.signed,
-        certified: ballot,
-        certificate: mask,
-    };
-    put(after, site, h, false, true, P2B)
-}
-
-// The verdict on a VERIFY of a proper history: against the sender's entry, and then the others.
-fn enter<'a>(
-    r: Roster,
-    marks: Marks,
-    proven: &[u64],
-    words: &'a [u64],
-    counts: &'a [u8],
-    site: u8,
-    h: &[u64],
-) -> Verdict
-    requires { ⌜ (r .n ≤ 16) × (length (now h) ≤ 32) ⌝ }
-    ensures { λ d. ⌜ d ≡ verdict.onEntry r marks (now (proven .entry)) (now (words .entry)) (now (counts .entry)) site (now (h .entry)) .verdict ⌝ }
-{
-    let entry = table::row(words, counts, site as usize);
     let newer = history::extends(h, entry);
     if newer {
-        return keep(r, marks, proven, words, counts, site, h);
+        return false;
     }
-    let older = history::extends(entry, h);
-    if older {
-        return idle(marks, Answer::Accepted);
-    }
-    against(marks, Refusal::Contradiction)
+    !history::extends(entry, h)
 }
 
-// The verdict on a VERIFY: sender, view and ballot, and then the history.
-fn verify<'a>(
-    r: Roster,
-    view: View,
-    marks: Marks,
-    proven: &[u64],
-    words: &'a [u64],
-    counts: &'a [u8],
-    head: Heading,
-    h: &[u64],
-) -> Verdict
-    requires { ⌜ (r .n ≤ 16) × (length (now h) ≤ 32) ⌝ }
-    ensures { λ d. ⌜ d ≡ verdict.onVerify r view marks (now (proven .entry)) (now (words .entry)) (now (counts .entry)) head (now (h .entry)) .verdict ⌝ }
+// The answer to the heading of a VERIFY.
+fn verify_heading(r: Roster, view: View, marks: Marks, head: Heading) -> Answer
+    ensures { λ a. ⌜ a ≡ answer (spec.verifyHeading r view marks (frameWith head [])) ⌝ }
 {
     let unknown = r.n <= head.sender;
-    if unknown {
-        return against(marks, Refusal::Sender);
-    }
     let stale = !((head.view.0 == view.0) & (head.ballot.0 == marks.ballot.0));
-    if stale {
-        return against(marks, Refusal::Stale);
-    }
-    let valid = command::all_valid(h);
-    if !valid {
-        return against(marks, Refusal::Command);
-    }
-    let improper = history::improper(h);
-    if improper {
-        return against(marks, Refusal::History);
-    }
-    enter(r, marks, proven, words, counts, head.sender, h)
+    given(
+        unknown,
+        Refusal::Sender,
+        given(stale, Refusal::Stale, Answer::Accepted),
+    )
 }
 
-// The verdict on a frame with the words of buf that carries a history, by its kind. A PROPOSE leaves in buf what it signs.
-fn weigh<'a>(
+// The answer to a VERIFY: the heading, then the commands, then the sender's entry.
+fn on_verify<'a>(
     r: Roster,
-    own: u8,
     view: View,
     marks: Marks,
-    held: &[u64],
-    proven: &[u64],
-    words: &'a [u64],
-    counts: &'a [u8],
+    entry: &'a [u64],
     head: Heading,
-    buf: &mut [u64],
-) -> Verdict
-    requires { ⌜ verdict.Sizes r (now held) (head .n) (now buf) ⌝ }
-    ensures { λ d. ⌜ verdict.ruled d (now (buf .exit)) ≡ verdict.onCarried r own view marks (now (held .entry)) (now (proven .entry)) (now (words .entry)) (now (counts .entry)) head (now (buf .entry)) ⌝ }
+    h: &'a [u64],
+) -> Answer
+    requires { ⌜ (length (now h) ≤ 32) × (length (now entry) ≤ 32) ⌝ }
+    ensures { λ a. ⌜ a ≡ answer (spec.verifyRules r view marks (now (entry .entry)) (frameWith head []) (now (h .entry))) ⌝ }
 {
-    let proposal = head.kind == PROPOSE;
-    if proposal {
-        return propose(own, marks, held, proven, head, buf);
+    let heading = verify_heading(r, view, marks, head);
+    let stops = heading.refuses();
+    if stops {
+        return heading;
     }
-    let n = head.n as usize;
-    let h = &buf[..n];
-    let ordered = head.kind == P2A;
-    if ordered {
-        return order(r, own, view, marks, held, proven, head, h);
+    let commands = content::ordered(h);
+    let ends = commands.refuses();
+    if ends {
+        return commands;
     }
-    verify(r, view, marks, proven, words, counts, head, h)
+    let clash = contradicts(h, entry);
+    given(clash, Refusal::Contradiction, Answer::Accepted)
 }
 
-// The commands of a history of this count and these words.
-fn commands<'a>(count: u8, words: &'a [u64; 32]) -> &'a [u64]
-    ensures { λ h. ⌜ now h ≡ take count (now (words .entry)) ⌝ }
+// The answer to a frame with these words, by its kind.
+fn judge<'a>(
+    r: Roster,
+    view: View,
+    marks: Marks,
+    held: &'a [u64],
+    proven: &'a [u64],
+    counts: &'a [u8],
+    words: &'a [u64],
+    head: Heading,
+    all: &'a [u64],
+) -> Answer
+    requires { ⌜ (length (now held) ≤ 32) × (head .n ≤ 32) ⌝ }
+    ensures { λ a. ⌜ a ≡ answer (spec.frameRules (spec.kindOf (head .kind)) r view marks (now (held .entry)) (now (proven .entry)) (row (now (words .entry)) (now (counts .entry)) (head .sender)) (frameWith head (now (all .entry)))) ⌝ }
 {
-    let all: &'a [u64] = words;
-    history::first(all, count as usize)
+    let classic = head.kind == P1A;
+    if classic {
+        return on_opening(r, view, marks, head);
+    }
+    let fast = head.kind == FAST;
+    if fast {
+        return on_opening(r, view, marks, head);
+    }
+    let h = history::first(all, head.n as usize);
+    let request = head.kind == PROPOSE;
+    if request {
+        return on_propose(marks, held, proven, head, h);
+    }
+    let ordered = head.kind == P2A;
+    if ordered {
+        return on_order(r, view, marks, held, proven, head, h);
+    }
+    let entry = table::row(words, counts, head.sender as usize);
+    on_verify(r, view, marks, entry, head, h)
 }
 
 // Whether the roster, the own number, the room, the record or the state is one that no step takes.
@@ -551,58 +339,147 @@ fn config<'a>(
                         & table::rows_valid(words, counts, r.n))))))
 }
 
-// The verdict on what was read of a line, where CONFIG applies or not, and then by its kind. The history that it speaks of is left at the front of
-// buf.
-fn judge<'a>(
-    unfit: bool,
+// The answer to a line of which this was read: CONFIG and FORM, and then by the frame.
+fn check<'a>(
     r: Roster,
     own: u8,
-    view: View,
+    room: usize,
+    v: ViewRecord,
     marks: Marks,
-    held: &[u64],
-    proven: &[u64],
-    words: &'a [u64],
-    counts: &'a [u8],
+    held_count: u8,
+    held: &'a [u64; 32],
+    proven_count: u8,
+    proven: &'a [u64; 32],
+    counts: &'a [u8; 16],
+    words: &'a [u64; 512],
     head: Heading,
-    buf: &mut [u64; 64],
-) -> Verdict
-    requires { ⌜ (unfit ≡ false → verdict.Short r (now held)) × (head .n ≤ 32) ⌝ }
-    ensures { λ d. ⌜ verdict.ruled d (now (buf .exit)) ≡ verdict.onReading unfit r own view marks (now (held .entry)) (now (proven .entry)) (now (words .entry)) (now (counts .entry)) head (now (buf .entry)) ⌝ }
+    all: &'a [u64; 64],
+) -> Answer
+    requires { ⌜ head .n ≤ 32 ⌝ }
+    ensures { λ a. ⌜ a ≡ answer (parts.rulesOn r own room v (parts.stateOf marks «held_count» (now (held .entry)) «proven_count» (now (proven .entry)) (now (counts .entry)) (now (words .entry))) (readingWith head (now (all .entry)))) ⌝ }
 {
-    if unfit {
-        return against(marks, Refusal::Config);
+    let unfit = config(
+        r,
+        own,
+        room,
+        v,
+        marks,
+        held_count,
+        held,
+        proven_count,
+        proven,
+        counts,
+        words,
+    );
+    let lost = !head.found;
+    let line = given(
+        unfit,
+        Refusal::Config,
+        given(lost, Refusal::Form, Answer::Accepted),
+    );
+    let stops = line.refuses();
+    if stops {
+        return line;
     }
-    let found = head.found;
-    if !found {
-        return against(marks, Refusal::Form);
-    }
-    let classic = head.kind == P1A;
-    if classic {
-        return start(r, view, marks, head, 0, P1B);
-    }
-    let fast = head.kind == FAST;
-    if fast {
-        return start(r, view, marks, head, 1, 0);
-    }
-    weigh(r, own, view, marks, held, proven, words, counts, head, buf)
+    let h = history::first(held, held_count as usize);
+    let k = history::first(proven, proven_count as usize);
+    judge(r, v.view, marks, h, k, counts, words, head, all)
 }
 
-// Sends the P1B that reports what is proven and what is held.
-fn report<'a>(own: u8, marks: Marks, held: &'a [u64], proven: &'a [u64], out: &mut [u8]) -> usize
-    ensures { λ k. ⌜ Handed (sends (verdict.report own marks (now (held .entry)) (now (proven .entry)))) k (now (out .entry)) (now (out .exit)) ⌝ }
+// How many commands are kept of h: all, but at most 32.
+fn count_of(h: &[u64]) -> u8
+    ensures { λ k. ⌜ k ≡ min (length (now (h .entry))) 32 ⌝ }
 {
-    site::send(
-        true,
+    let n = h.len();
+    if n < History::LIMIT { n as u8 } else { 32 }
+}
+
+// Makes h the history of this count and these words.
+fn replace(h: &[u64], count: &mut u8, words: &mut [u64; 32])
+    ensures { λ u. ⌜ historyOf (now (count .exit)) (now (words .exit)) ≡ stored (now (h .entry)) ⌝ }
+{
+    history::fill(words, h);
+    *count = count_of(h);
+}
+
+// Makes h the entry of a site.
+fn enter(h: &[u64], site: u8, counts: &mut [u8; 16], words: &mut [u64; 512])
+    ensures { λ u. ⌜ tableOf (now (words .exit)) (now (counts .exit)) ≡ storedAt (tableOf (now (words .entry)) (now (counts .entry))) site (now (h .entry)) ⌝ }
+{
+    table::store(words, counts, site as usize, h);
+}
+
+// What a call gives that sends no frame.
+fn silent(marks: Marks, answer: Answer) -> Settled
+    ensures { λ o. ⌜ o ≡ record { answer = answer; sent = 0; marks = marks } ⌝ }
+{
+    Settled {
+        answer,
+        sent: 0,
+        marks,
+    }
+}
+
+// Empties the table.
+fn forget(counts: &mut [u8; 16], words: &mut [u64; 512])
+    ensures { λ u. ⌜ tableOf (now (words .exit)) (now (counts .exit)) ≡ emptyTable ⌝ }
+{
+    *counts = [0u8; 16];
+    *words = [0u64; 512];
+}
+
+// The marks in a ballot that was just taken: nothing is signed in it yet.
+fn in_ballot(marks: Marks, ballot: Ballot, fast: u8) -> Marks
+    ensures { λ k. ⌜ k ≡ record { ballot = ballot; fast = fast; signed = 0; certified = marks .certified; certificate = marks .certificate } ⌝ }
+{
+    let certified = marks.certified;
+    Marks {
+        ballot,
+        fast,
+        signed: 0,
+        certified,
+        certificate: marks.certificate,
+    }
+}
+
+// Takes a ballot: what was signed and verified before is forgotten. The P1B that reports what is proven and what is held goes out, if it is to be sent.
+fn start<'a>(
+    sent: bool,
+    fast: u8,
+    own: u8,
+    marks: Marks,
+    ballot: Ballot,
+    held_count: u8,
+    held: &'a [u64; 32],
+    proven_count: u8,
+    proven: &'a [u64; 32],
+    counts: &mut [u8; 16],
+    words: &mut [u64; 512],
+    out: &mut [u8],
+) -> Settled
+    ensures { λ o. ⌜ parts.Done (accept (spec.inBallot (parts.stateOf marks «held_count» (now (held .entry)) «proven_count» (now (proven .entry)) (now (counts .entry)) (now (words .entry))) ballot fast) (sendsIf sent (spec.p1b own (parts.stateOf marks «held_count» (now (held .entry)) «proven_count» (now (proven .entry)) (now (counts .entry)) (now (words .entry))) ballot))) (now (out .entry)) (parts.outcomeOf o «held_count» (now (held .entry)) «proven_count» (now (proven .entry)) (now (counts .exit)) (now (words .exit))) (now (out .exit)) ⌝ }
+{
+    let h = history::first(held, held_count as usize);
+    let g = history::first(proven, proven_count as usize);
+    let length = site::send(
+        sent,
         P1B,
         own,
         View(0),
-        marks.ballot,
+        ballot,
         marks.certified,
         marks.certificate,
-        proven,
-        held,
+        g,
+        h,
         out,
-    )
+    );
+    forget(counts, words);
+    let now = in_ballot(marks, ballot, fast);
+    Settled {
+        answer: Answer::Accepted,
+        sent: length,
+        marks: now,
+    }
 }
 
 // Sends a frame of this kind for one history.
@@ -615,7 +492,8 @@ fn notify(
     h: &[u64],
     out: &mut [u8],
 ) -> usize
-    ensures { λ k. ⌜ Handed (sends (verdict.notice kind own view ballot mask (now (h .entry)))) k (now (out .entry)) (now (out .exit)) ⌝ }
+    requires { ⌜ length (now h) ≤ 32 ⌝ }
+    ensures { λ k. ⌜ Handed (sends (message kind own view ballot (record { 0 = 0 }) mask (now (h .entry)) [])) k (now (out .entry)) (now (out .exit)) ⌝ }
 {
     let none: [u64; 0] = [];
     site::send(
@@ -632,93 +510,312 @@ fn notify(
     )
 }
 
-// Sends the frame that a verdict on h asks for: P1B, VERIFY, P2B, or none.
-fn reply<'a>(
+// The marks once a history was signed.
+fn having_signed(marks: Marks) -> Marks
+    ensures { λ k. ⌜ k ≡ record { ballot = marks .ballot; fast = marks .fast; signed = 1; certified = marks .certified; certificate = marks .certificate } ⌝ }
+{
+    let ballot = marks.ballot;
+    let certified = marks.certified;
+    Marks {
+        ballot,
+        fast: marks.fast,
+        signed: 1,
+        certified,
+        certificate: marks.certificate,
+    }
+}
+
+// Signs h: it becomes held and the own entry, and a VERIFY goes out.
+fn sign(
     own: u8,
-    view: View,
-    d: Verdict,
+    v: ViewRecord,
+    marks: Marks,
     h: &[u64],
-    held: &'a [u64],
-    proven: &'a [u64],
-    out: &mut [u8],
-) -> usize
-    ensures { λ k. ⌜ Handed (verdict.sendingOf own view d (now (h .entry)) (now (held .entry)) (now (proven .entry))) k (now (out .entry)) (now (out .exit)) ⌝ }
-{
-    let marks = d.marks;
-    let silent = d.kind == 0;
-    if silent {
-        return 0;
-    }
-    let opened = d.kind == P1B;
-    if opened {
-        return report(own, marks, held, proven, out);
-    }
-    let signed = d.kind == VERIFY;
-    if signed {
-        return notify(VERIFY, own, view, marks.ballot, 0, h, out);
-    }
-    notify(P2B, own, View(0), marks.ballot, marks.certificate, h, out)
-}
-
-// How many commands are kept of h: all, but at most 32.
-fn count_of(h: &[u64]) -> u8
-    ensures { λ k. ⌜ k ≡ min (length (now (h .entry))) 32 ⌝ }
-{
-    let n = h.len();
-    if n < History::LIMIT { n as u8 } else { 32 }
-}
-
-// Makes h the history of this count and these words, if it is due.
-fn replace(due: bool, h: &[u64], count: &mut u8, words: &mut [u64; 32])
-    ensures { λ r. ⌜ historyOf (now (count .exit)) (now (words .exit)) ≡ verdict.replaced due (now (h .entry)) (historyOf (now (count .entry)) (now (words .entry))) ⌝ }
-{
-    if !due {
-        return;
-    }
-    history::fill(words, h);
-    *count = count_of(h);
-}
-
-// Empties the table, makes h the entry of a site, or neither, as a verdict says.
-fn update(
-    opens: bool,
-    stores: bool,
-    site: u8,
-    h: &[u64],
+    held_count: &mut u8,
+    held: &mut [u64; 32],
+    proven_count: u8,
+    proven: &[u64; 32],
     counts: &mut [u8; 16],
     words: &mut [u64; 512],
-)
-    ensures { λ r. ⌜ tableOf (now (words .exit)) (now (counts .exit)) ≡ verdict.entered opens stores site (now (h .entry)) (tableOf (now (words .entry)) (now (counts .entry))) ⌝ }
+    out: &mut [u8],
+) -> Settled
+    requires { ⌜ length (now h) ≤ 32 ⌝ }
+    ensures { λ o. ⌜ parts.Done (spec.sign own v (parts.stateOf marks (now («held_count» .entry)) (now (held .entry)) «proven_count» (now (proven .entry)) (now (counts .entry)) (now (words .entry))) (now (h .entry))) (now (out .entry)) (parts.outcomeOf o (now («held_count» .exit)) (now (held .exit)) «proven_count» (now (proven .entry)) (now (counts .exit)) (now (words .exit))) (now (out .exit)) ⌝ }
 {
-    if opens {
-        *counts = [0u8; 16];
-        *words = [0u64; 512];
-        return;
-    }
-    if stores {
-        table::store(words, counts, site as usize, h);
-    }
-}
-
-// What a verdict gives where so many bytes are to be sent.
-fn finish(d: Verdict, sent: usize) -> Settled
-    ensures { λ o. ⌜ o ≡ verdict.given d sent ⌝ }
-{
-    let answer = d.answer;
-    let marks = d.marks;
+    let sent = notify(VERIFY, own, v.view, marks.ballot, 0, h, out);
+    replace(h, held_count, held);
+    enter(h, own, counts, words);
+    let now = having_signed(marks);
     Settled {
-        answer,
+        answer: Answer::Accepted,
         sent,
-        marks,
+        marks: now,
     }
 }
 
-// The first n words of a frame's, or all of them.
-fn front<'a>(buf: &'a [u64; 64], n: usize) -> &'a [u64]
-    ensures { λ h. ⌜ now h ≡ take n (now (buf .entry)) ⌝ }
+// Writes what is held over the first n words of buf, with those of them that are new appended, and answers how many words that is.
+fn unite(held: &[u64], n: usize, buf: &mut [u64]) -> usize
+    requires { ⌜ (length (now held) ≤ 32) × (n ≤ 32) × (length (now buf) ≡ 64) ⌝ }
+    ensures { λ k. ⌜ parts.United (now (held .entry)) (take n (now (buf .entry))) k (now (buf .exit)) ⌝ }
 {
-    let all: &'a [u64] = buf;
-    history::first(all, n)
+    let mut more = [0u64; 32];
+    history::fill(&mut more, &buf[..n]);
+    history::fill(buf, held);
+    merge::append(buf, held.len(), &more[..n])
+}
+
+// Writes what is held over the first n words of buf, with those of them that are new, in canonical order, and answers how many words that is.
+fn arrange(held: &[u64], n: usize, buf: &mut [u64]) -> usize
+    requires { ⌜ (length (now held) ≤ 32) × (n ≤ 32) × (length (now buf) ≡ 64) ⌝ }
+    ensures { λ k. ⌜ take k (now (buf .exit)) ≡ canonical (appended (now (held .entry)) (take n (now (buf .entry)))) ⌝ }
+{
+    let k = unite(held, n, buf);
+    history::put_in_order(&mut buf[..k]);
+    k
+}
+
+// Signs what is held with the new ones of the n commands of buf, in canonical order.
+fn grow(
+    own: u8,
+    v: ViewRecord,
+    marks: Marks,
+    n: usize,
+    buf: &mut [u64; 64],
+    held_count: &mut u8,
+    held: &mut [u64; 32],
+    proven_count: u8,
+    proven: &[u64; 32],
+    counts: &mut [u8; 16],
+    words: &mut [u64; 512],
+    out: &mut [u8],
+) -> Settled
+    requires { ⌜ (n ≤ 32) × (length (appended (take (now «held_count») (now held)) (take n (now buf))) ≤ 32) ⌝ }
+    ensures { λ o. ⌜ parts.Done (spec.sign own v (parts.stateOf marks (now («held_count» .entry)) (now (held .entry)) «proven_count» (now (proven .entry)) (now (counts .entry)) (now (words .entry))) (canonical (appended (take (now («held_count» .entry)) (now (held .entry))) (take n (now (buf .entry)))))) (now (out .entry)) (parts.outcomeOf o (now («held_count» .exit)) (now (held .exit)) «proven_count» (now (proven .entry)) (now (counts .exit)) (now (words .exit))) (now (out .exit)) ⌝ }
+{
+    let all: &mut [u64] = buf;
+    let present = *held_count;
+    let own_words: &[u64] = held;
+    let k = arrange(history::first(own_words, present as usize), n, all);
+    let h = history::first(all, k);
+    sign(
+        own,
+        v,
+        marks,
+        h,
+        held_count,
+        held,
+        proven_count,
+        proven,
+        counts,
+        words,
+        out,
+    )
+}
+
+// The mask of the sites below n whose entry is h.
+fn certify<'a>(words: &'a [u64], counts: &'a [u8], n: u8, h: &[u64]) -> u16
+    requires { ⌜ n ≤ 16 ⌝ }
+    ensures { λ k. ⌜ k ≡ maskTo n (spec.matches (tableOf (now (words .entry)) (now (counts .entry))) (now (h .entry))) ⌝ }
+{
+    let mut mask: u16 = 0;
+    let mut next: u8 = 0;
+    while next < n {
+        let i = next;
+        let equal = history::same(table::row(words, counts, i as usize), h);
+        next += 1;
+        if equal {
+            mask = roster::with_site(mask, i);
+        }
+    }
+    mask
+}
+
+// Whether h, which the sites of the mask verified, becomes proven.
+fn convinces(r: Roster, marks: Marks, proven: &[u64], mask: u16, h: &[u64]) -> bool
+    requires { ⌜ length (now h) ≤ 32 ⌝ }
+    ensures { λ b. ⌜ b ≡ spec.convinces r marks (now (proven .entry)) mask (now (h .entry)) ⌝ }
+{
+    let enough = roster::reaches(mask, r.quorum());
+    if !enough {
+        return false;
+    }
+    let grows = history::extends(h, proven);
+    if !grows {
+        return false;
+    }
+    let equal = history::same(proven, h);
+    if !equal {
+        return true;
+    }
+    let ballot = marks.ballot;
+    let certified = marks.certified;
+    !(certified.0 == ballot.0)
+}
+
+// The marks once a history was proven in the present ballot by the sites of the mask.
+fn having_proven(marks: Marks, mask: u16) -> Marks
+    ensures { λ k. ⌜ k ≡ record { ballot = marks .ballot; fast = marks .fast; signed = marks .signed; certified = marks .ballot; certificate = mask } ⌝ }
+{
+    let ballot = marks.ballot;
+    Marks {
+        ballot,
+        fast: marks.fast,
+        signed: marks.signed,
+        certified: ballot,
+        certificate: mask,
+    }
+}
+
+// Stores h as the entry of a site. If that makes it proven, a P2B goes out.
+fn keep(
+    r: Roster,
+    own: u8,
+    marks: Marks,
+    site: u8,
+    h: &[u64],
+    held_count: u8,
+    held: &[u64; 32],
+    proven_count: &mut u8,
+    proven: &mut [u64; 32],
+    counts: &mut [u8; 16],
+    words: &mut [u64; 512],
+    out: &mut [u8],
+) -> Settled
+    requires { ⌜ (r .n ≤ 16) × (length (now h) ≤ 32) ⌝ }
+    ensures { λ o. ⌜ parts.Done (spec.store r own (parts.stateOf marks «held_count» (now (held .entry)) (now («proven_count» .entry)) (now (proven .entry)) (now (counts .entry)) (now (words .entry))) (storedAt (tableOf (now (words .entry)) (now (counts .entry))) site (now (h .entry))) (now (h .entry))) (now (out .entry)) (parts.outcomeOf o «held_count» (now (held .entry)) (now («proven_count» .exit)) (now (proven .exit)) (now (counts .exit)) (now (words .exit))) (now (out .exit)) ⌝ }
+{
+    enter(h, site, counts, words);
+    let mask = certify(words, counts, r.n, h);
+    let present = *proven_count;
+    let own_words: &[u64] = proven;
+    let proves = convinces(
+        r,
+        marks,
+        history::first(own_words, present as usize),
+        mask,
+        h,
+    );
+    if !proves {
+        return silent(marks, Answer::Accepted);
+    }
+    let sent = notify(P2B, own, View(0), marks.ballot, mask, h, out);
+    replace(h, proven_count, proven);
+    let now = having_proven(marks, mask);
+    Settled {
+        answer: Answer::Accepted,
+        sent,
+        marks: now,
+    }
+}
+
+// Does what an accepted frame asks for, by its kind.
+fn perform(
+    r: Roster,
+    own: u8,
+    v: ViewRecord,
+    marks: Marks,
+    head: Heading,
+    buf: &mut [u64; 64],
+    held_count: &mut u8,
+    held: &mut [u64; 32],
+    proven_count: &mut u8,
+    proven: &mut [u64; 32],
+    counts: &mut [u8; 16],
+    words: &mut [u64; 512],
+    out: &mut [u8],
+) -> Settled
+    requires { ⌜ parts.Performable r (head .n) (head .kind) (take (now «held_count») (now held)) (take (head .n) (now buf)) ⌝ }
+    ensures { λ o. ⌜ parts.Done (spec.accepted (spec.kindOf (head .kind)) r own v (parts.stateOf marks (now («held_count» .entry)) (now (held .entry)) (now («proven_count» .entry)) (now (proven .entry)) (now (counts .entry)) (now (words .entry))) (frameWith head (now (buf .entry)))) (now (out .entry)) (parts.outcomeOf o (now («held_count» .exit)) (now (held .exit)) (now («proven_count» .exit)) (now (proven .exit)) (now (counts .exit)) (now (words .exit))) (now (out .exit)) ⌝ }
+{
+    let classic = head.kind == P1A;
+    if classic {
+        return start(
+            true,
+            0,
+            own,
+            marks,
+            head.ballot,
+            *held_count,
+            held,
+            *proven_count,
+            proven,
+            counts,
+            words,
+            out,
+        );
+    }
+    let fast = head.kind == FAST;
+    if fast {
+        return start(
+            false,
+            1,
+            own,
+            marks,
+            head.ballot,
+            *held_count,
+            held,
+            *proven_count,
+            proven,
+            counts,
+            words,
+            out,
+        );
+    }
+    let n = head.n as usize;
+    let request = head.kind == PROPOSE;
+    if request {
+        return grow(
+            own,
+            v,
+            marks,
+            n,
+            buf,
+            held_count,
+            held,
+            *proven_count,
+            proven,
+            counts,
+            words,
+            out,
+        );
+    }
+    let h = history::first(buf, n);
+    let ordered = head.kind == P2A;
+    if ordered {
+        return sign(
+            own,
+            v,
+            marks,
+            h,
+            held_count,
+            held,
+            *proven_count,
+            proven,
+            counts,
+            words,
+            out,
+        );
+    }
+    let lengths: &[u8] = counts;
+    let entries: &[u64] = words;
+    let newer = history::extends(h, table::row(entries, lengths, head.sender as usize));
+    if !newer {
+        return silent(marks, Answer::Accepted);
+    }
+    keep(
+        r,
+        own,
+        marks,
+        head.sender,
+        h,
+        *held_count,
+        held,
+        proven_count,
+        proven,
+        counts,
+        words,
+        out,
+    )
 }
 
 // One step in place, on the parts of an acceptor's state: the answer to a line, how much of the buffer is to be sent, and the marks after it. The
@@ -741,43 +838,41 @@ pub fn step_in_place(
 {
     let mut buf = [0u64; 64];
     let head = frame::read_into(line, TAKEN, &mut buf);
-    let lengths: &[u8] = counts;
-    let entries: &[u64] = words;
-    let unfit = config(
+    let room = out.len();
+    let answer = check(
         r,
         own,
-        out.len(),
+        room,
         v,
         marks,
         *held_count,
         held,
         *proven_count,
         proven,
-        lengths,
-        entries,
+        counts,
+        words,
+        head,
+        &buf,
     );
-    let held_now = commands(*held_count, held);
-    let proven_now = commands(*proven_count, proven);
-    let view = v.view;
-    let d = judge(
-        unfit,
+    let refused = answer.refuses();
+    if refused {
+        return silent(marks, answer);
+    }
+    perform(
         r,
         own,
-        view,
+        v,
         marks,
-        held_now,
-        proven_now,
-        entries,
-        lengths,
         head,
         &mut buf,
-    );
-    let h = front(&buf, d.count);
-    let sent = reply(own, view, d, h, held_now, proven_now, out);
-    replace(d.signs, h, held_count, held);
-    replace(d.proves, h, proven_count, proven);
-    update(d.opens, d.stores, d.site, h, counts, words);
-    finish(d, sent)
+        held_count,
+        held,
+        proven_count,
+        proven,
+        counts,
+        words,
+        out,
+    )
 }
 
 impl State {

@@ -4,7 +4,7 @@ use mathlib.Core.Path.{sym, ap, _∙_}
 use mathlib.Core.Bool.{not}
 use borrow.Author.Tests.{not-true, not-false}
 use Rattle.acceptor.proofs.Tests.{extends-is}
-use Rattle.acceptor.specs.Verdict.{lags}
+use Rattle.acceptor.specs.Acceptor.{lags}
 use borrow.Author.Needs.{needs}
 use Rattle.acceptor.proofs.behind.Statement.{statement}
 use Rattle.acceptor.proofs.behind.Tie as tie

@@ -3,7 +3,7 @@
 use mathlib.Core.Path.{_∙_}
 use borrow.Author.Tests.{not-true, not-false}
 use Rattle.acceptor.proofs.Tests.{extends-is}
-use Rattle.acceptor.specs.Verdict.{convinces}
+use Rattle.acceptor.specs.Acceptor.{convinces}
 use borrow.Author.Needs.{needs}
 use Rattle.acceptor.proofs.convinces.Statement.{statement}
 use Rattle.acceptor.proofs.convinces.Tie as tie

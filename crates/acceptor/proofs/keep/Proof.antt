@@ -1,46 +1,78 @@
--- `acceptor::keep` meets its contract: the mask of those that agree decides whether the history becomes proven.
+-- `acceptor::keep` meets its contract.
 -- Assumes nothing.
-use mathlib.Core.Path.{_∙_}
+use mathlib.Core.Path.{_≡_, ap, _∙_}
 use borrow.Author.Tests.{not-true, not-false}
-use Rattle.acceptor.specs.Verdict.{agreeing}
-use Rattle.acceptor.proofs.Tests.{store-only, store-proves}
+use Rattle.roster.specs.Sites.{maskTo}
+use lib.ListN.{take}
+use Rattle.table.specs.Table.{storedAt}
+use Rattle.table.specs.declared.Table.{Table}
+use Rattle.acceptor.specs.Acceptor.{matches, certificateOf, convinces}
+use Rattle.acceptor.specs.Parts.{stateOf}
+use Rattle.acceptor.proofs.Tests.{stores-only, stores-and-proves}
 use borrow.Author.Needs.{needs}
 use Rattle.acceptor.proofs.keep.Statement.{statement}
 use Rattle.acceptor.proofs.keep.Tie as tie
 
+enter-requires : tie.Need-enter-requires
+enter-requires c κs = search needs
+
 certify-requires : tie.Need-certify-requires
-certify-requires c κs = search needs
+certify-requires c κs = c .before .before .before .before .before .before .before .before .before .pre .0
+
+first-requires : tie.Need-first-requires
+first-requires c κs = search needs
 
 convinces-requires : tie.Need-convinces-requires
-convinces-requires c κs = search needs
+convinces-requires c κs = c .before .before .before .before .before .before .before .before .before .before .before .before .before .before .pre .1
 
-put-requires : tie.Need-put-requires
-put-requires c κs = search needs
+silent-requires : tie.Need-silent-requires
+silent-requires c κs = search needs
 
 returns : tie.Need-returns
-unfolding agreeing
+unfolding certificateOf
 returns c =
-    let put-call = c .put in
-    let given = c .before .before .before .before .before .before .before .before .args in
-    let certify-call = c .before .before .before .certify in
-    let convinces-call = c .before .before .convinces in
-    let if1 = c .before .if1 in
-    put-call .ensures ∙ store-only _ _ _ _ _ (given .site) _ (certify-call .result) (convinces-call .result) (certify-call .ensures) (convinces-call .ensures) (not-true _ (if1 .taken))
+    let given = c .before .before .before .before .before .before .before .before .before .before .before .before .before .before .before .before .before .args in
+    let s = stateOf (given .marks) (given .held-count) (given .held .now) (given .proven-count .now) (given .proven .now) (given .counts .now) (given .words .now) in
+    let t = storedAt (s .verified) (given .site) (given .h .now) in
+    let mask : c .before .before .before .before .before .before .before .certify .result ≡ certificateOf (given .r) t (given .h .now) = c .before .before .before .before .before .before .before .certify .ensures ∙ ap (λ (t : Table). maskTo (given .r .n) (matches t (given .h .now))) (c .before .before .before .before .before .before .before .before .before .before .before .before .enter .ensures) in
+    let convinced : c .before .before .convinces .result ≡ convinces (given .r) (given .marks) (take (given .proven-count .now) (given .proven .now)) (c .before .before .before .before .before .before .before .certify .result) (given .h .now) = rw (c .before .before .before .first .ensures) at (c .before .before .convinces .ensures) in
+    rw (c .silent .ensures, c .before .before .before .before .before .before .before .before .before .before .before .before .enter .ensures) (stores-only (given .r) (given .own) s t (given .h .now) (given .out .now) (c .before .before .before .before .before .before .before .certify .result) (c .before .before .convinces .result) mask convinced (not-true _ (c .before .if1 .taken)))
 
-put-requires-2 : tie.Need-put-requires-2
-put-requires-2 c κs = search needs
+notify-requires : tie.Need-notify-requires
+notify-requires c κs = c .before .before .before .before .before .before .before .before .before .before .before .before .before .before .before .before .before .pre .1
+
+replace-requires : tie.Need-replace-requires
+replace-requires c κs = search needs
+
+having-proven-requires : tie.Need-having-proven-requires
+having-proven-requires c κs = search needs
+
+same-length : tie.Need-same-length
+same-length c = search needs
 
 returns-2 : tie.Need-returns-2
-unfolding agreeing
+unfolding certificateOf
 returns-2 c =
-    let put2-call = c .put2 in
-    let given = c .before .before .before .before .before .before .before .before .before .args in
-    let certify-call = c .before .before .before .before .certify in
-    let convinces-call = c .before .before .before .convinces in
-    let if1 = c .before .before .if1 in
-    put2-call .ensures ∙ store-proves _ _ _ _ _ (given .site) _ (certify-call .result) (convinces-call .result) (certify-call .ensures) (convinces-call .ensures) (not-false _ (if1 .left))
+    let given = c .before .before .before .before .before .before .before .before .before .before .before .before .before .before .before .before .before .before .before .before .before .before .before .before .args in
+    let s = stateOf (given .marks) (given .held-count) (given .held .now) (given .proven-count .now) (given .proven .now) (given .counts .now) (given .words .now) in
+    let t = storedAt (s .verified) (given .site) (given .h .now) in
+    let mask : c .before .before .before .before .before .before .before .before .before .before .before .before .before .before .certify .result ≡ certificateOf (given .r) t (given .h .now) = c .before .before .before .before .before .before .before .before .before .before .before .before .before .before .certify .ensures ∙ ap (λ (t : Table). maskTo (given .r .n) (matches t (given .h .now))) (c .before .before .before .before .before .before .before .before .before .before .before .before .before .before .before .before .before .before .before .enter .ensures) in
+    let convinced : c .before .before .before .before .before .before .before .before .before .convinces .result ≡ convinces (given .r) (given .marks) (take (given .proven-count .now) (given .proven .now)) (c .before .before .before .before .before .before .before .before .before .before .before .before .before .before .certify .result) (given .h .now) = rw (c .before .before .before .before .before .before .before .before .before .before .first .ensures) at (c .before .before .before .before .before .before .before .before .before .convinces .ensures) in
+    rw (c .having-proven .ensures, c .before .replace .ensures, c .before .before .before .before .before .before .before .before .before .before .before .before .before .before .before .before .before .before .before .enter .ensures)
+    (stores-and-proves (given .r) (given .own) s t (given .h .now) (given .out .now) (c .before .before .before .before .before .before .before .before .before .before .before .before .before .before .certify .result) (c .before .before .before .before .before .before .before .before .before .convinces .result) mask convinced (not-false _ (c .before .before .before .before .before .before .before .before .if1 .left)) _ _ (c .before .before .before .before .before .before .notify .ensures))
 
 pub keep-spec : {M : Type 1} → statement M
 keep-spec =
     tie.close
-    (tie.spec certify-requires convinces-requires put-requires returns put-requires-2 returns-2)
+    (tie.spec
+    enter-requires
+    certify-requires
+    first-requires
+    convinces-requires
+    silent-requires
+    returns
+    notify-requires
+    replace-requires
+    having-proven-requires
+    same-length
+    returns-2)

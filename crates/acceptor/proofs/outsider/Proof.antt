@@ -1,6 +1,6 @@
--- `acceptor::outsider` meets its contract: it asks the two tests of the definition.
+-- `acceptor::outsider` meets its contract.
 -- Assumes nothing.
-use Rattle.acceptor.specs.Verdict.{outsider}
+use Rattle.acceptor.specs.Acceptor.{notLeader}
 use borrow.Author.Needs.{needs}
 use Rattle.acceptor.proofs.outsider.Statement.{statement}
 use Rattle.acceptor.proofs.outsider.Tie as tie
@@ -9,10 +9,8 @@ leader-of-requires : tie.Need-leader-of-requires
 leader-of-requires c κs = search needs
 
 returns : tie.Need-returns
-unfolding outsider
-returns c =
-    let leader-of-call = c .leader-of in
-    rw (leader-of-call .ensures)
+unfolding notLeader
+returns c = rw (c .leader-of .ensures)
 
 pub outsider-spec : {M : Type 1} → statement M
 outsider-spec = tie.close (tie.spec leader-of-requires returns)

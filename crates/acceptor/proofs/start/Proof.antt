@@ -1,58 +1,49 @@
--- `acceptor::start` meets its contract: it asks the tests of SENDER and STALE in their order, and takes the ballot.
+-- `acceptor::start` meets its contract.
 -- Assumes nothing.
-use mathlib.Core.Path.{sym, _∙_}
-use Rattle.refusal.specs.Rules.{judged}
-use Rattle.acceptor.specs.Verdict.{onOpening}
+use denote.Ref.{now}
+use Prim.Native.Nat.{_≤_}
+use native.Mathlib.Omega.{arith}
+use lib.ListN.{length, length-take}
+use lib.Seq.{take-all}
 use borrow.Author.Needs.{needs}
 use Rattle.acceptor.proofs.start.Statement.{statement}
 use Rattle.acceptor.proofs.start.Tie as tie
 
-outsider-requires : tie.Need-outsider-requires
-outsider-requires c κs = search needs
+first-requires : tie.Need-first-requires
+first-requires c κs = search needs
 
-against-requires : tie.Need-against-requires
-against-requires c κs = search needs
+first-requires-2 : tie.Need-first-requires-2
+first-requires-2 c κs = search needs
+
+send-requires : tie.Need-send-requires
+send-requires c κs = search needs
+
+forget-requires : tie.Need-forget-requires
+forget-requires c κs = search needs
+
+in-ballot-requires : tie.Need-in-ballot-requires
+in-ballot-requires c κs = search needs
+
+same-length : tie.Need-same-length
+same-length c = search needs
 
 returns : tie.Need-returns
-unfolding judged onOpening
 returns c =
-    let outsider-call = c .before .before .outsider in
-    let if1 = c .before .if1 in
-    let against-call = c .against in
-    rw (sym (outsider-call .ensures) ∙ if1 .taken) (against-call .ensures)
-
-against-requires-2 : tie.Need-against-requires-2
-against-requires-2 c κs = search needs
-
-returns-2 : tie.Need-returns-2
-unfolding judged onOpening
-returns-2 c =
-    let outsider-call = c .before .before .before .before .before .before .before .outsider in
-    let if1 = c .before .before .before .before .before .before .if1 in
-    let if2 = c .before .if2 in
-    let against2-call = c .against2 in
-    rw (sym (outsider-call .ensures) ∙ if1 .left, if2 .taken) (against2-call .ensures)
-
-take-requires : tie.Need-take-requires
-take-requires c κs = search needs
-
-returns-3 : tie.Need-returns-3
-unfolding judged onOpening
-returns-3 c =
-    let outsider-call = c .before .before .before .before .before .before .before .outsider in
-    let if1 = c .before .before .before .before .before .before .if1 in
-    let if2 = c .before .if2 in
-    let take-call = c .take in
-    rw (sym (outsider-call .ensures) ∙ if1 .left, if2 .left) (take-call .ensures)
+    let g = now (c .before .before .before .before .before .before .before .before .first2 .result) in
+    let h = now (c .before .before .before .before .before .before .before .before .before .before .first .result) in
+    let short-g : length g ≤ 32 = rw (c .before .before .before .before .before .before .before .before .first2 .ensures, length-take) (omega arith) in
+    let short-h : length h ≤ 32 = rw (c .before .before .before .before .before .before .before .before .before .before .first .ensures, length-take) (omega arith) in
+    let handed = rw (take-all 32 g short-g, take-all 32 h short-h) at (c .before .before .before .before .before .before .send .ensures) in
+    (rw (c .in-ballot .ensures, c .before .forget .ensures, ← c .before .before .before .before .before .before .before .before .before .before .first .ensures, ← c .before .before .before .before .before .before .before .before .first2 .ensures, handed .0), rw (← c .before .before .before .before .before .before .before .before .before .before .first .ensures, ← c .before .before .before .before .before .before .before .before .first2 .ensures) (handed .1))
 
 pub start-spec : {M : Type 1} → statement M
 start-spec =
     tie.close
     (tie.spec
-    outsider-requires
-    against-requires
-    returns
-    against-requires-2
-    returns-2
-    take-requires
-    returns-3)
+    first-requires
+    first-requires-2
+    send-requires
+    forget-requires
+    in-ballot-requires
+    same-length
+    returns)
