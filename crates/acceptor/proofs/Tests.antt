@@ -1,6 +1,6 @@
 -- What the code's tests say in the words of the definitions.
 use mathlib.Core.Path.{_≡_, refl, sym, ap, subst, _∙_}
-use mathlib.Core.Bool.{Bool, true, false}
+use mathlib.Core.Bool.{Bool, true, false, _||_, false≢true}
 use mathlib.Core.List.{List, _++_}
 use Prim.Native.Nat.{ℕ, _≤_}
 use native.Mathlib.Omega.{arith}
@@ -8,7 +8,7 @@ use borrow.Author.Tests.{not-false, eqb-true, ltb-false}
 use lib.Dec.{eqb}
 use lib.ListN.{length, take, drop, length-take}
 use lib.Seq.{length-take-le, take-append-seam}
-use Rattle.basics.specs.Bools.{and-left}
+use Rattle.basics.specs.Bools.{and-left, or-left, or-right}
 use Rattle.roster.specs.declared.Roster.{Roster}
 use Rattle.roster.specs.RosterLaws.{valid-figures}
 use Rattle.history.specs.History.{extends, canonical}
@@ -16,7 +16,8 @@ use Rattle.history.specs.CanonicalLaws.{canonical-length}
 use Rattle.history.specs.Words.{padded, extendsWithin}
 use Rattle.words.specs.WordsLaws.{take-padded}
 use Rattle.history.specs.WordsLaws.{extends-within}
-use Rattle.merge.specs.Merge.{appendedIn}
+use Rattle.merge.specs.Merge.{appended, appendedIn}
+use Rattle.merge.specs.Appending.{overflows}
 use Rattle.merge.specs.AppendingLaws.{appended-in-work, take-appended, append-bound}
 use Rattle.table.specs.declared.Table.{Table}
 use Rattle.refusal.specs.declared.Refusal.{Refusal}
@@ -27,6 +28,7 @@ use Rattle.refusal.specs.Refusal.{isRefused}
 use Rattle.refusal.specs.Rules.{answer}
 use Rattle.refusal.specs.AnswerLaws.{judged-refused, judged-accepted, answer-none}
 use Rattle.refusal.specs.JudgedLaws.{NoneHolds, testOf, no-test}
+use Rattle.frame.specs.declared.Frame.{Frame}
 use Rattle.frame.specs.declared.Heading.{Heading}
 use Rattle.frame.specs.declared.Reading.{Reading}
 use Rattle.frame.specs.Format.{readingOf, readingWith, frameWith, malformed}
@@ -37,12 +39,16 @@ use Rattle.site.specs.SiteLaws.{seated-is}
 use Rattle.site.specs.Reply.{Reply, Handed, refuse, sends}
 use Rattle.acceptor.specs.declared.State.{State}
 use Rattle.acceptor.specs.declared.Outcome.{Outcome}
-use Rattle.acceptor.specs.Acceptor.{kindOf, taken, received, heldOf, provenOf, marksOf, config, rules, p2b, certificateOf, convinces, proves, storing, proving, store, accepted, step}
-use Rattle.acceptor.specs.Parts.{United, rulesOn, Performable, Done}
+use Rattle.acceptor.specs.Acceptor.{kindOf, taken, received, carried, heldOf, provenOf, marksOf, config, rules, opening, sign, lengthened, p2b, certificateOf, convinces, proves, storing, proving, store, verifying, accepted, step}
+use Rattle.acceptor.specs.Code.Effects.{United, rulesOn, Performable, asked, Done}
 
 -- the code's test of extension, of a list of at most 32 commands
 pub extends-is : (h g : List ℕ) (b : Bool) → length h ≤ 32 → b ≡ extendsWithin 64 h g → extends h g ≡ b
 extends-is h g b p e = sym (extends-within 64 h g (omega arith)) ∙ sym e
+
+-- a number is not two others
+one-kind : (k a b : ℕ) → eqb k a ≡ true → eqb k b ≡ true → (a ≡ b → ⊥) → ⊥
+one-kind k a b p q n = n (sym (eqb-true k a p) ∙ eqb-true k b q)
 
 -- ---- a union in place: b is the buffer with n commands at its front
 
@@ -89,6 +95,42 @@ module _ (r : Roster) (own : ℕ) (s : State) (t : Table) (h out : List ℕ) (ma
   unfolding store
   stores-and-proves g n l d = let yes = tested ∙ g in (rw (yes, ← e, d .0), rw (yes, ← e) (d .1))
 
+-- ---- an accepted frame, by its kind as the code tells it
+
+module _ (r : Roster) (own : ℕ) (v : ViewRecord) (s : State) (m : Frame) where
+  pub accepts-opening : (eqb (m .kind) 1 || eqb (m .kind) 2) ≡ true → accepted (kindOf (m .kind)) r own v s m ≡ opening (eqb (m .kind) 2) own s (m .ballot)
+  accepts-opening e = go (eqb (m .kind) 1) (eqb (m .kind) 2) refl refl e
+    where
+      go : (a b : Bool) → eqb (m .kind) 1 ≡ a → eqb (m .kind) 2 ≡ b → (a || b) ≡ true → accepted (kindOf (m .kind)) r own v s m ≡ opening b own s (m .ballot)
+      go true true p q e = absurd (one-kind (m .kind) 1 2 p q (λ x. omega arith))
+      go true false p q e = rw p
+      go false true p q e = rw (p, q)
+      go false false p q e = absurd (false≢true e)
+
+  pub accepts-signing : (eqb (m .kind) 1 || eqb (m .kind) 2) ≡ false → (eqb (m .kind) 4 || eqb (m .kind) 5) ≡ true
+      → accepted (kindOf (m .kind)) r own v s m ≡ sign own v s (asked (eqb (m .kind) 4) (heldOf s) (carried m))
+  accepts-signing n e = go (eqb (m .kind) 4) (eqb (m .kind) 5) refl refl e
+    where
+      go : (a b : Bool) → eqb (m .kind) 4 ≡ a → eqb (m .kind) 5 ≡ b → (a || b) ≡ true
+          → accepted (kindOf (m .kind)) r own v s m ≡ sign own v s (asked a (heldOf s) (carried m))
+      go true b p q e = rw (or-left (eqb (m .kind) 1) _ n, or-right (eqb (m .kind) 1) _ n, p)
+      go false true p q e = rw (or-left (eqb (m .kind) 1) _ n, or-right (eqb (m .kind) 1) _ n, p, q)
+      go false false p q e = absurd (false≢true e)
+
+  pub accepts-verify : (eqb (m .kind) 1 || eqb (m .kind) 2) ≡ false → (eqb (m .kind) 4 || eqb (m .kind) 5) ≡ false
+      → accepted (kindOf (m .kind)) r own v s m ≡ verifying r own s (m .sender) (carried m)
+  accepts-verify n e =
+      rw (or-left (eqb (m .kind) 1) _ n, or-right (eqb (m .kind) 1) _ n, or-left (eqb (m .kind) 4) _ e, or-right (eqb (m .kind) 4) _ e)
+
+-- what it asks to sign has at most 32 commands
+pub asked-short : (r : Roster) (n kind : ℕ) (held w : List ℕ) → Performable r n kind held (take n w) → length (asked (eqb kind 4) held (take n w)) ≤ 32
+unfolding lengthened
+asked-short r n kind held w p = go (eqb kind 4) (p .fits)
+  where
+    go : (b : Bool) → (b ≡ true → length (appended held (take n w)) ≤ 32) → length (asked b held (take n w)) ≤ 32
+    go true f = rw canonical-length (f refl)
+    go false f = rw length-take (omega (arith, p .short))
+
 -- ---- a line: head and w are what was read of it, x is the answer, and t tells whether it refuses
 
 module _ (r : Roster) (own : ℕ) (v : ViewRecord) (s : State) (line out : List ℕ) (head : Heading) (w : List ℕ) (x : Answer) (t : Bool)
@@ -112,7 +154,7 @@ module _ (r : Roster) (own : ℕ) (v : ViewRecord) (s : State) (line out : List 
 
   -- what the effect needs: no rule holds
   pub performable : t ≡ false → Performable r (head .n) (head .kind) (heldOf s) (take (head .n) w)
-  unfolding config testOf
+  unfolding config testOf overflows
   performable h =
       let m = frameWith head w in
       let none : NoneHolds (rulesOn r own (length out) v s (readingWith head w)) = answer-none (rulesOn r own (length out) v s (readingWith head w)) x e (sym g ∙ h) in

@@ -1,19 +1,20 @@
--- The acceptor, as document 01, "Acceptor", words it: its refusals in their order, and what an accepted frame does.
-use mathlib.Core.Bool.{Bool, not, cond, _&&_, _||_}
+-- The acceptor, as document 01, "Acceptor", words it: for each kind of frame its refusals in their order and what an accepted frame does; and the step.
+use mathlib.Core.Bool.{Bool, true, false, not, cond, _&&_, _||_}
 use mathlib.Core.List.{List, [], _∷_, _++_}
 use Prim.Native.Nat.{ℕ}
-use lib.Dec.{leb, ltb, eqb}
+use lib.Dec.{leb, eqb}
 use lib.ListN.{length}
 use Rattle.roster.specs.declared.Roster.{Roster}
 use Rattle.roster.specs.declared.View.{View}
 use Rattle.roster.specs.declared.Ballot.{Ballot}
 use Rattle.roster.specs.Roster.{quorum, leaderOf}
+use Rattle.roster.specs.Counts.{sameView, sameBallot, laterBallot}
 use Rattle.roster.specs.Mask.{reaches, beyond}
 use Rattle.roster.specs.Sites.{maskTo}
 use Rattle.history.specs.History.{canonical, equal, extends}
 use Rattle.history.specs.Words.{limit, commands, stored, validStored}
 use Rattle.merge.specs.Merge.{appended}
-use Rattle.merge.specs.Appending.{reuses, nothingNew}
+use Rattle.merge.specs.Appending.{reuses, nothingNew, overflows}
 use Rattle.table.specs.declared.Table.{Table}
 use Rattle.table.specs.Table.{rowOf, storedAt, emptyTable, validTable}
 use Rattle.refusal.specs.declared.Refusal.the-variants.{Config, Form, Sender, Stale, Behind, Reused, Contradiction, Nothing, Full}
@@ -25,10 +26,12 @@ use Rattle.frame.specs.Format.{readingOf, malformed}
 use Rattle.site.specs.declared.ViewRecord.{ViewRecord}
 use Rattle.site.specs.Site.{seated, validRecord, isSet}
 use Rattle.site.specs.Message.{message}
-use Rattle.site.specs.Reply.{silent, sends, Reply, refuse, accept, lengthSent, buffer}
+use Rattle.site.specs.Reply.{silent, sends, sendsIf, Reply, refuse, accept, lengthSent, buffer}
 use Rattle.acceptor.specs.declared.State.{State}
 use Rattle.acceptor.specs.declared.Marks.{Marks}
 use Rattle.acceptor.specs.declared.Outcome.{Outcome}
+
+-- ---- the state
 
 -- "Fresh: all 0 and empty."
 abbrev pub fresh : State
@@ -39,10 +42,25 @@ fresh =
       signed = 0;
       held = stored [];
       proven = stored [];
-      certified = record { 0 = 0 };
+      «proven_ballot» = record { 0 = 0 };
       certificate = 0;
       verified = emptyTable;
     }
+
+-- what is held and what is proven, as lists
+abbrev pub heldOf : State → List ℕ
+heldOf s = commands (s .held)
+
+abbrev pub provenOf : State → List ℕ
+provenOf s = commands (s .proven)
+
+-- what a state has beside its histories and its table
+abbrev pub marksOf : State → Marks
+marksOf s = record { ballot = s .ballot; fast = s .fast; signed = s .signed; «proven_ballot» = s .«proven_ballot»; certificate = s .certificate }
+
+-- the last VERIFY of a frame's sender
+abbrev pub entryOf : State → Frame → List ℕ
+entryOf s m = rowOf (s .verified) (m .sender)
 
 -- ---- the frames that an acceptor takes
 
@@ -68,22 +86,173 @@ received line = readingOf line taken .frame
 abbrev pub carried : Frame → List ℕ
 carried m = first m
 
--- what is held and what is proven, as lists
-abbrev pub heldOf : State → List ℕ
-heldOf s = commands (s .held)
+-- SENDER: "P1A, FAST or P2A not from the frame's view mod N"
+unfoldable pub notLeader : Roster → ℕ → View → Bool
+notLeader r site view = leb (r .n) site || not (eqb site (leaderOf r view))
 
-abbrev pub provenOf : State → List ℕ
-provenOf s = commands (s .proven)
+-- ---- P1A and FAST
 
--- what the checks after CONFIG read of a state beside its histories and its table
-abbrev pub marksOf : State → Marks
-marksOf s = record { ballot = s .ballot; fast = s .fast; signed = s .signed; certified = s .certified; certificate = s .certificate }
+-- "view equal, ballot greater than its own, else STALE"
+abbrev pub openingRules : Roster → View → Marks → Frame → List Rule
+openingRules r view k m =
+    notLeader r (m .sender) (m .view) gives Sender ∷
+    not (sameView (m .view) view && laterBallot (m .ballot) (k .ballot)) gives Stale ∷ []
 
--- the sender's entry
-abbrev pub entryOf : State → Frame → List ℕ
-entryOf s m = rowOf (s .verified) (m .sender)
+-- "Takes the ballot, forgets the VERIFY table and that it signed."
+abbrev pub inBallot : State → Ballot → ℕ → State
+inBallot s ballot fast =
+    record {
+      ballot = ballot;
+      fast = fast;
+      signed = 0;
+      held = s .held;
+      proven = s .proven;
+      «proven_ballot» = s .«proven_ballot»;
+      certificate = s .certificate;
+      verified = emptyTable;
+    }
 
--- ---- the refusals: "Checks run in this order; the first that applies is given."
+-- P1B, with the proven history, its ballot and mask, and the held one
+abbrev pub p1b : ℕ → State → Ballot → Frame
+p1b own s ballot = message 3 own (record { 0 = 0 }) ballot (s .«proven_ballot») (s .certificate) (provenOf s) (heldOf s)
+
+-- "P1A answers P1B; FAST answers nothing."
+unfoldable pub opening : Bool → ℕ → State → Ballot → Reply State
+opening fast own s ballot = accept (inBallot s ballot (cond fast 1 0)) (sendsIf (not fast) (p1b own s ballot))
+
+-- ---- signing a history, which P2A and PROPOSE do
+
+-- VERIFY of h in the present view and ballot
+abbrev pub verify : ℕ → ViewRecord → State → List ℕ → Frame
+verify own v s h = message 6 own (v .view) (s .ballot) (record { 0 = 0 }) 0 h []
+
+abbrev pub signing : ℕ → State → List ℕ → State
+signing own s h =
+    record {
+      ballot = s .ballot;
+      fast = s .fast;
+      signed = 1;
+      held = stored h;
+      proven = s .proven;
+      «proven_ballot» = s .«proven_ballot»;
+      certificate = s .certificate;
+      verified = storedAt (s .verified) own h;
+    }
+
+-- "It becomes held; answers VERIFY, which replaces its own entry but proves nothing yet."
+unfoldable pub sign : ℕ → ViewRecord → State → List ℕ → Reply State
+sign own v s h = accept (signing own s h) (sends (verify own v s h))
+
+-- ---- P2A of h
+
+-- "view and ballot equal and classic, else STALE"
+abbrev pub orderHeading : Roster → View → Marks → Frame → List Rule
+orderHeading r view k m =
+    notLeader r (m .sender) (m .view) gives Sender ∷
+    not (sameView (m .view) view && (sameBallot (m .ballot) (k .ballot) && eqb (k .fast) 0)) gives Stale ∷ []
+
+-- "must extend the proven one and, if it signed in this ballot, the held one"
+unfoldable pub lags : ℕ → List ℕ → List ℕ → List ℕ → Bool
+lags signed held proven h = not (extends h proven) || (isSet signed && not (extends h held))
+
+abbrev pub orderRules : Roster → View → Marks → List ℕ → List ℕ → Frame → List ℕ → List Rule
+orderRules r view k held proven m h = orderHeading r view k m ++ (historyRules h ++ (lags (k .signed) held proven h gives Behind ∷ []))
+
+-- ---- PROPOSE of h
+
+-- "PROPOSE instead: sender 0"; "ballot equal and fast, else STALE"
+abbrev pub proposeHeading : Marks → Frame → List Rule
+proposeHeading k m =
+    eqb (m .sender) 0 gives Sender ∷
+    not (sameBallot (m .ballot) (k .ballot) && isSet (k .fast)) gives Stale ∷ []
+
+-- "The held history must extend the proven one (BEHIND)"; REUSED, NOTHING and FULL against what is held
+abbrev pub proposeRules : Marks → List ℕ → List ℕ → Frame → List ℕ → List Rule
+proposeRules k held proven m h =
+    proposeHeading k m
+    ++ (requestRules (m .sender) h
+    ++ (not (extends held proven) gives Behind ∷
+    reuses held h gives Reused ∷
+    nothingNew held h gives Nothing ∷
+    overflows limit held h gives Full ∷ []))
+
+-- "Commands not held are appended, result canonical; answers VERIFY as above."
+unfoldable pub lengthened : List ℕ → List ℕ → List ℕ
+lengthened held h = canonical (appended held h)
+
+-- ---- VERIFY of h
+
+-- "sender ≥ N"; "view and ballot equal"
+abbrev pub verifyHeading : Roster → View → Marks → Frame → List Rule
+verifyHeading r view k m =
+    leb (r .n) (m .sender) gives Sender ∷
+    not (sameView (m .view) view && sameBallot (m .ballot) (k .ballot)) gives Stale ∷ []
+
+-- CONTRADICTION: "sender's stored history and this one: neither extends the other"
+unfoldable pub contradicts : List ℕ → List ℕ → Bool
+contradicts entry h = not (extends h entry) && not (extends entry h)
+
+abbrev pub verifyRules : Roster → View → Marks → List ℕ → Frame → List ℕ → List Rule
+verifyRules r view k entry m h = verifyHeading r view k m ++ (historyRules h ++ (contradicts entry h gives Contradiction ∷ []))
+
+-- whether an entry equals it, and the mask of those that do
+abbrev pub matches : Table → List ℕ → ℕ → Bool
+matches t h i = equal (rowOf t i) h
+
+unfoldable pub certificateOf : Roster → Table → List ℕ → ℕ
+certificateOf r t h = maskTo (r .n) (matches t h)
+
+-- "If stored and N-f entries equal it, and it extends the proven history, and it isn't already proven in this ballot"
+unfoldable pub convinces : Roster → Marks → List ℕ → ℕ → List ℕ → Bool
+convinces r k proven mask h =
+    reaches mask (quorum r) && (extends h proven && not (equal proven h && sameBallot (k .«proven_ballot») (k .ballot)))
+
+abbrev pub proves : Roster → State → Table → List ℕ → Bool
+proves r s t h = convinces r (marksOf s) (provenOf s) (certificateOf r t h) h
+
+-- the state with the table, and that in which h is proven
+abbrev pub storing : State → Table → State
+storing s t =
+    record {
+      ballot = s .ballot;
+      fast = s .fast;
+      signed = s .signed;
+      held = s .held;
+      proven = s .proven;
+      «proven_ballot» = s .«proven_ballot»;
+      certificate = s .certificate;
+      verified = t;
+    }
+
+abbrev pub proving : State → Table → ℕ → List ℕ → State
+proving s t mask h =
+    record {
+      ballot = s .ballot;
+      fast = s .fast;
+      signed = s .signed;
+      held = s .held;
+      proven = stored h;
+      «proven_ballot» = s .ballot;
+      certificate = mask;
+      verified = t;
+    }
+
+-- P2B of h in the present ballot, with the mask of its certificate
+abbrev pub p2b : ℕ → State → ℕ → List ℕ → Frame
+p2b own s mask h = message 7 own (record { 0 = 0 }) (s .ballot) (record { 0 = 0 }) mask h []
+
+-- "it becomes proven and a P2B goes out, its mask those entries. Otherwise no answer."
+unfoldable pub store : Roster → ℕ → State → Table → List ℕ → Reply State
+store r own s t h =
+    cond (proves r s t h)
+    (accept (proving s t (certificateOf r t h) h) (sends (p2b own s (certificateOf r t h) h)))
+    (accept (storing s t) silent)
+
+-- "Stored if it extends the site's entry; accepted without effect if the entry is longer and extends it."
+unfoldable pub verifying : Roster → ℕ → State → ℕ → List ℕ → Reply State
+verifying r own s site h = cond (extends h (rowOf (s .verified) site)) (store r own s (storedAt (s .verified) site h) h) (accept s silent)
+
+-- ---- the step: "Checks run in this order; the first that applies is given."
 
 -- CONFIG: roster, own number and buffer; "lent state with a count over 32, a wrong command, a repeated proposer and serial in one list, a stored
 -- history not canonical, or a mask bit or entry at N or above", the record's masks among them
@@ -97,58 +266,6 @@ config r own room v s =
 -- FORM: no line of a kind that an acceptor takes
 abbrev pub form : List ℕ → Bool
 form line = malformed line taken
-
--- SENDER: "P1A, FAST or P2A not from the frame's view mod N"
-unfoldable pub notLeader : Roster → ℕ → View → Bool
-notLeader r site view = leb (r .n) site || not (eqb site (leaderOf r view))
-
--- P1A, FAST: "view equal, ballot greater than its own, else STALE"
-abbrev pub openingRules : Roster → View → Marks → Frame → List Rule
-openingRules r view k m =
-    notLeader r (m .sender) (m .view) gives Sender ∷
-    not (eqb (m .view .0) (view .0) && ltb (k .ballot .0) (m .ballot .0)) gives Stale ∷ []
-
--- PROPOSE of h: "PROPOSE instead: sender 0"; "ballot equal and fast, else STALE"
-abbrev pub proposeHeading : Marks → Frame → List Rule
-proposeHeading k m =
-    eqb (m .sender) 0 gives Sender ∷
-    not (eqb (m .ballot .0) (k .ballot .0) && isSet (k .fast)) gives Stale ∷ []
-
--- "The held history must extend the proven one (BEHIND)"; REUSED, NOTHING and FULL against what is held
-abbrev pub proposeRules : Marks → List ℕ → List ℕ → Frame → List ℕ → List Rule
-proposeRules k held proven m h =
-    proposeHeading k m
-    ++ (requestRules (m .sender) h
-    ++ (not (extends held proven) gives Behind ∷
-    reuses held h gives Reused ∷
-    nothingNew held h gives Nothing ∷
-    ltb limit (length (appended held h)) gives Full ∷ []))
-
--- P2A of h: "view and ballot equal and classic, else STALE"
-abbrev pub orderHeading : Roster → View → Marks → Frame → List Rule
-orderHeading r view k m =
-    notLeader r (m .sender) (m .view) gives Sender ∷
-    not (eqb (m .view .0) (view .0) && (eqb (m .ballot .0) (k .ballot .0) && eqb (k .fast) 0)) gives Stale ∷ []
-
--- "must extend the proven one and, if it signed in this ballot, the held one"
-unfoldable pub lags : ℕ → List ℕ → List ℕ → List ℕ → Bool
-lags signed held proven h = not (extends h proven) || (isSet signed && not (extends h held))
-
-abbrev pub orderRules : Roster → View → Marks → List ℕ → List ℕ → Frame → List ℕ → List Rule
-orderRules r view k held proven m h = orderHeading r view k m ++ (historyRules h ++ (lags (k .signed) held proven h gives Behind ∷ []))
-
--- VERIFY of h: "sender ≥ N"; "view and ballot equal"
-abbrev pub verifyHeading : Roster → View → Marks → Frame → List Rule
-verifyHeading r view k m =
-    leb (r .n) (m .sender) gives Sender ∷
-    not (eqb (m .view .0) (view .0) && eqb (m .ballot .0) (k .ballot .0)) gives Stale ∷ []
-
--- CONTRADICTION: "sender's stored history and this one: neither extends the other"
-unfoldable pub contradicts : List ℕ → List ℕ → Bool
-contradicts h entry = not (extends h entry) && not (extends entry h)
-
-abbrev pub verifyRules : Roster → View → Marks → List ℕ → Frame → List ℕ → List Rule
-verifyRules r view k entry m h = verifyHeading r view k m ++ (historyRules h ++ (contradicts h entry gives Contradiction ∷ []))
 
 -- the checks of a frame of a kind
 abbrev pub frameRules : Kind → Roster → View → Marks → List ℕ → List ℕ → List ℕ → Frame → List Rule
@@ -165,114 +282,13 @@ rulesIn r v s m = frameRules (kindOf (m .kind)) r (v .view) (marksOf s) (heldOf 
 abbrev pub rules : Roster → ℕ → ℕ → ViewRecord → State → List ℕ → List Rule
 rules r own room v s line = config r own room v s gives Config ∷ form line gives Form ∷ rulesIn r v s (received line)
 
--- ---- the frames that an acceptor sends
-
--- P1B, with the proven history, its ballot and mask, and the held one
-abbrev pub p1b : ℕ → State → Ballot → Frame
-p1b own s ballot = message 3 own (record { 0 = 0 }) ballot (s .certified) (s .certificate) (provenOf s) (heldOf s)
-
--- VERIFY of h in the present view and ballot
-abbrev pub verify : ℕ → ViewRecord → State → List ℕ → Frame
-verify own v s h = message 6 own (v .view) (s .ballot) (record { 0 = 0 }) 0 h []
-
--- P2B of h in the present ballot, with the mask of its certificate
-abbrev pub p2b : ℕ → State → ℕ → List ℕ → Frame
-p2b own s mask h = message 7 own (record { 0 = 0 }) (s .ballot) (record { 0 = 0 }) mask h []
-
--- ---- an accepted frame
-
--- P1A, FAST: "Takes the ballot, forgets the VERIFY table and that it signed."
-abbrev pub inBallot : State → Ballot → ℕ → State
-inBallot s ballot fast =
-    record {
-      ballot = ballot;
-      fast = fast;
-      signed = 0;
-      held = s .held;
-      proven = s .proven;
-      certified = s .certified;
-      certificate = s .certificate;
-      verified = emptyTable;
-    }
-
--- P2A: "It becomes held; answers VERIFY, which replaces its own entry but proves nothing yet."
-abbrev pub signing : ℕ → State → List ℕ → State
-signing own s h =
-    record {
-      ballot = s .ballot;
-      fast = s .fast;
-      signed = 1;
-      held = stored h;
-      proven = s .proven;
-      certified = s .certified;
-      certificate = s .certificate;
-      verified = storedAt (s .verified) own h;
-    }
-
-unfoldable pub sign : ℕ → ViewRecord → State → List ℕ → Reply State
-sign own v s h = accept (signing own s h) (sends (verify own v s h))
-
--- VERIFY: the table with it, and the mask of the entries that equal it
-abbrev pub verifiedBy : State → Frame → Table
-verifiedBy s m = storedAt (s .verified) (m .sender) (carried m)
-
-abbrev pub matches : Table → List ℕ → ℕ → Bool
-matches t h i = equal (rowOf t i) h
-
-unfoldable pub certificateOf : Roster → Table → List ℕ → ℕ
-certificateOf r t h = maskTo (r .n) (matches t h)
-
--- "If stored and N-f entries equal it, and it extends the proven history, and it isn't already proven in this ballot"
-unfoldable pub convinces : Roster → Marks → List ℕ → ℕ → List ℕ → Bool
-convinces r k proven mask h =
-    reaches mask (quorum r) && (extends h proven && not (equal proven h && eqb (k .certified .0) (k .ballot .0)))
-
-abbrev pub proves : Roster → State → Table → List ℕ → Bool
-proves r s t h = convinces r (marksOf s) (provenOf s) (certificateOf r t h) h
-
--- the state with the table, and that in which h is proven
-abbrev pub storing : State → Table → State
-storing s t =
-    record {
-      ballot = s .ballot;
-      fast = s .fast;
-      signed = s .signed;
-      held = s .held;
-      proven = s .proven;
-      certified = s .certified;
-      certificate = s .certificate;
-      verified = t;
-    }
-
-abbrev pub proving : State → Table → ℕ → List ℕ → State
-proving s t mask h =
-    record {
-      ballot = s .ballot;
-      fast = s .fast;
-      signed = s .signed;
-      held = s .held;
-      proven = stored h;
-      certified = s .ballot;
-      certificate = mask;
-      verified = t;
-    }
-
--- "it becomes proven and a P2B goes out, its mask those entries. Otherwise no answer."
-unfoldable pub store : Roster → ℕ → State → Table → List ℕ → Reply State
-store r own s t h =
-    cond (proves r s t h)
-    (accept (proving s t (certificateOf r t h) h) (sends (p2b own s (certificateOf r t h) h)))
-    (accept (storing s t) silent)
-
--- "Stored if it extends the site's entry; accepted without effect if the entry is longer and extends it."
+-- what an accepted frame of a kind does
 abbrev pub accepted : Kind → Roster → ℕ → ViewRecord → State → Frame → Reply State
-accepted P1A r own v s m = accept (inBallot s (m .ballot) 0) (sends (p1b own s (m .ballot)))
-accepted FAST r own v s m = accept (inBallot s (m .ballot) 1) silent
-accepted PROPOSE r own v s m = sign own v s (canonical (appended (heldOf s) (carried m)))
+accepted P1A r own v s m = opening false own s (m .ballot)
+accepted FAST r own v s m = opening true own s (m .ballot)
+accepted PROPOSE r own v s m = sign own v s (lengthened (heldOf s) (carried m))
 accepted P2A r own v s m = sign own v s (carried m)
-accepted VERIFY r own v s m = cond (extends (carried m) (entryOf s m)) (store r own s (verifiedBy s m) (carried m)) (accept s silent)
-
--- ---- the step
+accepted VERIFY r own v s m = verifying r own s (m .sender) (carried m)
 
 -- what a call does; `room` is the length of the lent buffer, and the view is that of the view-change record v
 unfoldable pub step : Roster → ℕ → ℕ → ViewRecord → State → List ℕ → Reply State

@@ -15,10 +15,13 @@ use Rattle.history.specs.ExtensionLaws.{extends-refl, extends-sound}
 use Rattle.history.specs.Words.{limit}
 use Rattle.history.specs.WordsLaws.{commands-stored}
 use Rattle.merge.specs.Merge.{appended}
+use Rattle.table.specs.declared.Table.{Table}
+use Rattle.table.specs.Table.{storedAt}
 use Rattle.refusal.specs.declared.Refusal.{Refusal}
 use Rattle.refusal.specs.declared.Refusal.the-variants.{Config, Form}
 use Rattle.refusal.specs.Rules.{_gives_}
-use Rattle.refusal.specs.JudgedLaws.{GivenFirst, NoneHolds, pass, Judgement, refused, accepts, judgement, inOrder, follows}
+use Rattle.refusal.specs.Order.{inOrder, follows}
+use Rattle.refusal.specs.JudgedLaws.{GivenFirst, NoneHolds, pass, Judgement, refused, accepts, judgement}
 use Rattle.frame.specs.declared.Frame.{Frame}
 use Rattle.frame.specs.Layout.{first}
 use Rattle.frame.specs.FormatLaws.{read-n}
@@ -51,15 +54,17 @@ use Rattle.acceptor.specs.Acceptor.{
   verify,
   p2b,
   inBallot,
+  lengthened,
+  opening,
   signing,
   sign,
-  verifiedBy,
   certificateOf,
   convinces,
   proves,
   storing,
   proving,
   store,
+  verifying,
   accepted,
   step,
 }
@@ -90,9 +95,9 @@ stepped r own room v s line = go (judgement (refuse s) (accepted (kindIn line) r
     go (accepts (pass a (pass b n)) o) = accepting (record { configured = a; framed = b; passes = n; outcome = o })
 
 -- "Checks run in this order": the rules follow the order of the table of refusals
-pub rules-rise : (r : Roster) (own room : ℕ) (v : ViewRecord) (s : State) (line : List ℕ) → follows inOrder (rules r own room v s line) ≡ true
+pub rules-follow : (r : Roster) (own room : ℕ) (v : ViewRecord) (s : State) (line : List ℕ) → follows inOrder (rules r own room v s line) ≡ true
 unfolding follows
-rules-rise r own room v s line = go (kindIn line)
+rules-follow r own room v s line = go (kindIn line)
   where
     go : (k : Kind)
         → follows inOrder
@@ -104,6 +109,10 @@ rules-rise r own room v s line = go (kindIn line)
     go PROPOSE = refl
     go P2A = refl
     go VERIFY = refl
+
+-- the table with a VERIFY stored in it
+abbrev pub verifiedBy : State → Frame → Table
+verifiedBy s m = storedAt (s .verified) (m .sender) (carried m)
 
 -- what an accepted frame does: a ballot is opened, a history is signed, a VERIFY proves its history, is stored only, or has no effect
 pub data Effect (r : Roster) (own : ℕ) (v : ViewRecord) (s : State) (m : Frame) : Reply State → Type 0 where
@@ -118,7 +127,7 @@ pub data Effect (r : Roster) (own : ℕ) (v : ViewRecord) (s : State) (m : Frame
   ignores : Effect r own v s m (accept s silent)
 
 pub effect : (k : Kind) (r : Roster) (own : ℕ) (v : ViewRecord) (s : State) (m : Frame) → Effect r own v s m (accepted k r own v s m)
-unfolding sign store
+unfolding opening sign lengthened store verifying
 effect P1A r own v s m = opens-classic
 effect FAST r own v s m = opens-fast
 effect PROPOSE r own v s m = signs (canonical (appended (heldOf s) (carried m)))

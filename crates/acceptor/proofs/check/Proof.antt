@@ -1,9 +1,9 @@
--- `acceptor::check` meets its contract.
+-- `acceptor::check` meets its contract: CONFIG and FORM are given in this order, and then the rules of the frame.
 -- Assumes nothing.
 use mathlib.Core.Path.{refl}
-use Rattle.refusal.specs.AnswerLaws.{rule, no-rule, stops, goes-on}
 use native.Mathlib.Omega.{arith}
 use lib.ListN.{length-take}
+use Rattle.refusal.specs.AnswerLaws.{rule, no-rule, stops, goes-on}
 use borrow.Author.Needs.{needs}
 use Rattle.acceptor.proofs.check.Statement.{statement}
 use Rattle.acceptor.proofs.check.Tie as tie
@@ -34,8 +34,7 @@ judge-requires c κs = (rw (c .before .before .before .before .before .first .en
 
 returns-2 : tie.Need-returns-2
 returns-2 c =
-    goes-on _ _ (rule _ _ (c .before .before .before .before .before .before .before .before .before .before .given2 .ensures) (c .before .before .before .before .before .before .before .before .before .before .before .before .before .config .ensures) (rule _ _ (c .before .before .before .before .before .before .before .before .before .before .before .given .ensures) refl no-rule)) (c .before .before .before .before .before .before .before .before .before .refuses .ensures) (c .before .before .before .before .before .before .before .before .if1 .left)
-    (rw (← c .before .before .before .before .before .before .first .ensures, ← c .before .before .before .before .first2 .ensures) (c .judge .ensures))
+    goes-on _ _ (rule _ _ (c .before .before .before .before .before .before .before .before .before .before .given2 .ensures) (c .before .before .before .before .before .before .before .before .before .before .before .before .before .config .ensures) (rule _ _ (c .before .before .before .before .before .before .before .before .before .before .before .given .ensures) refl no-rule)) (c .before .before .before .before .before .before .before .before .before .refuses .ensures) (c .before .before .before .before .before .before .before .before .if1 .left) (rw (← c .before .before .before .before .before .before .first .ensures, ← c .before .before .before .before .first2 .ensures) (c .judge .ensures))
 
 pub check-spec : {M : Type 1} → statement M
 check-spec =
