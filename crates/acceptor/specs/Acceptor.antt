@@ -1,32 +1,37 @@
--- The acceptor, as document 01, "Acceptor", words it: its refusals in their order, and what an accepted frame does.
-use mathlib.Core.Bool.{Bool, false, not, cond, _&&_, _||_}
-use mathlib.Core.List.{List, [], _∷_}
+-- The acceptor, as document 01, "Acceptor", words it: for each kind of frame its refusals in their order and what an accepted frame does; and the step.
+use mathlib.Core.Bool.{Bool, true, false, not, cond, _&&_, _||_}
+use mathlib.Core.List.{List, [], _∷_, _++_}
 use Prim.Native.Nat.{ℕ}
-use lib.Dec.{leb, ltb, eqb}
+use lib.Dec.{leb, eqb}
 use lib.ListN.{length}
 use Rattle.roster.specs.declared.Roster.{Roster}
+use Rattle.roster.specs.declared.View.{View}
 use Rattle.roster.specs.declared.Ballot.{Ballot}
 use Rattle.roster.specs.Roster.{quorum, leaderOf}
+use Rattle.roster.specs.Counts.{sameView, sameBallot, laterBallot}
 use Rattle.roster.specs.Mask.{reaches, beyond}
 use Rattle.roster.specs.Sites.{maskTo}
-use Rattle.command.specs.Command.{wrong, allBy}
-use Rattle.history.specs.History.{repeated, canonical, equal, improper, extends}
+use Rattle.history.specs.History.{canonical, equal, extends}
 use Rattle.history.specs.Words.{limit, commands, stored, validStored}
 use Rattle.merge.specs.Merge.{appended}
-use Rattle.merge.specs.Appending.{reuses, nothingNew}
+use Rattle.merge.specs.Appending.{reuses, nothingNew, overflows}
 use Rattle.table.specs.declared.Table.{Table}
 use Rattle.table.specs.Table.{rowOf, storedAt, emptyTable, validTable}
-use Rattle.refusal.specs.declared.Refusal.the-variants.{Config, Form, Sender, Stale, Command, History, Behind, Reused, Contradiction, Nothing, Full}
+use Rattle.refusal.specs.declared.Refusal.the-variants.{Config, Form, Sender, Stale, Behind, Reused, Contradiction, Nothing, Full}
 use Rattle.refusal.specs.Rules.{Rule, _gives_, judged}
+use Rattle.content.specs.Content.{historyRules, requestRules}
 use Rattle.frame.specs.declared.Frame.{Frame}
 use Rattle.frame.specs.Layout.{first}
 use Rattle.frame.specs.Format.{readingOf, malformed}
 use Rattle.site.specs.declared.ViewRecord.{ViewRecord}
 use Rattle.site.specs.Site.{seated, validRecord, isSet}
 use Rattle.site.specs.Message.{message}
-use Rattle.site.specs.Reply.{silent, sends, Reply, refuse, accept, lengthSent, buffer}
+use Rattle.site.specs.Reply.{silent, sends, sendsIf, Reply, refuse, accept, lengthSent, buffer}
 use Rattle.acceptor.specs.declared.State.{State}
+use Rattle.acceptor.specs.declared.Marks.{Marks}
 use Rattle.acceptor.specs.declared.Outcome.{Outcome}
+
+-- ---- the state
 
 -- "Fresh: all 0 and empty."
 abbrev pub fresh : State
@@ -37,10 +42,25 @@ fresh =
       signed = 0;
       held = stored [];
       proven = stored [];
-      certified = record { 0 = 0 };
+      «proven_ballot» = record { 0 = 0 };
       certificate = 0;
       verified = emptyTable;
     }
+
+-- what is held and what is proven, as lists
+abbrev pub heldOf : State → List ℕ
+heldOf s = commands (s .held)
+
+abbrev pub provenOf : State → List ℕ
+provenOf s = commands (s .proven)
+
+-- what a state has beside its histories and its table
+abbrev pub marksOf : State → Marks
+marksOf s = record { ballot = s .ballot; fast = s .fast; signed = s .signed; «proven_ballot» = s .«proven_ballot»; certificate = s .certificate }
+
+-- the last VERIFY of a frame's sender
+abbrev pub entryOf : State → Frame → List ℕ
+entryOf s m = rowOf (s .verified) (m .sender)
 
 -- ---- the frames that an acceptor takes
 
@@ -66,14 +86,173 @@ received line = readingOf line taken .frame
 abbrev pub carried : Frame → List ℕ
 carried m = first m
 
--- what is held and what is proven, as lists
-abbrev pub heldOf : State → List ℕ
-heldOf s = commands (s .held)
+-- SENDER: "P1A, FAST or P2A not from the frame's view mod N"
+unfoldable pub notLeader : Roster → ℕ → View → Bool
+notLeader r site view = leb (r .n) site || not (eqb site (leaderOf r view))
 
-abbrev pub provenOf : State → List ℕ
-provenOf s = commands (s .proven)
+-- ---- P1A and FAST
 
--- ---- the refusals, each by the kind of the frame
+-- "view equal, ballot greater than its own, else STALE"
+abbrev pub openingRules : Roster → View → Marks → Frame → List Rule
+openingRules r view k m =
+    notLeader r (m .sender) (m .view) gives Sender ∷
+    not (sameView (m .view) view && laterBallot (m .ballot) (k .ballot)) gives Stale ∷ []
+
+-- "Takes the ballot, forgets the VERIFY table and that it signed."
+abbrev pub inBallot : State → Ballot → ℕ → State
+inBallot s ballot fast =
+    record {
+      ballot = ballot;
+      fast = fast;
+      signed = 0;
+      held = s .held;
+      proven = s .proven;
+      «proven_ballot» = s .«proven_ballot»;
+      certificate = s .certificate;
+      verified = emptyTable;
+    }
+
+-- P1B, with the proven history, its ballot and mask, and the held one
+abbrev pub p1b : ℕ → State → Ballot → Frame
+p1b own s ballot = message 3 own (record { 0 = 0 }) ballot (s .«proven_ballot») (s .certificate) (provenOf s) (heldOf s)
+
+-- "P1A answers P1B; FAST answers nothing."
+unfoldable pub opening : Bool → ℕ → State → Ballot → Reply State
+opening fast own s ballot = accept (inBallot s ballot (cond fast 1 0)) (sendsIf (not fast) (p1b own s ballot))
+
+-- ---- signing a history, which P2A and PROPOSE do
+
+-- VERIFY of h in the present view and ballot
+abbrev pub verify : ℕ → ViewRecord → State → List ℕ → Frame
+verify own v s h = message 6 own (v .view) (s .ballot) (record { 0 = 0 }) 0 h []
+
+abbrev pub signing : ℕ → State → List ℕ → State
+signing own s h =
+    record {
+      ballot = s .ballot;
+      fast = s .fast;
+      signed = 1;
+      held = stored h;
+      proven = s .proven;
+      «proven_ballot» = s .«proven_ballot»;
+      certificate = s .certificate;
+      verified = storedAt (s .verified) own h;
+    }
+
+-- "It becomes held; answers VERIFY, which replaces its own entry but proves nothing yet."
+unfoldable pub sign : ℕ → ViewRecord → State → List ℕ → Reply State
+sign own v s h = accept (signing own s h) (sends (verify own v s h))
+
+-- ---- P2A of h
+
+-- "view and ballot equal and classic, else STALE"
+abbrev pub orderHeading : Roster → View → Marks → Frame → List Rule
+orderHeading r view k m =
+    notLeader r (m .sender) (m .view) gives Sender ∷
+    not (sameView (m .view) view && (sameBallot (m .ballot) (k .ballot) && eqb (k .fast) 0)) gives Stale ∷ []
+
+-- "must extend the proven one and, if it signed in this ballot, the held one"
+unfoldable pub lags : ℕ → List ℕ → List ℕ → List ℕ → Bool
+lags signed held proven h = not (extends h proven) || (isSet signed && not (extends h held))
+
+abbrev pub orderRules : Roster → View → Marks → List ℕ → List ℕ → Frame → List ℕ → List Rule
+orderRules r view k held proven m h = orderHeading r view k m ++ (historyRules h ++ (lags (k .signed) held proven h gives Behind ∷ []))
+
+-- ---- PROPOSE of h
+
+-- "PROPOSE instead: sender 0"; "ballot equal and fast, else STALE"
+abbrev pub proposeHeading : Marks → Frame → List Rule
+proposeHeading k m =
+    eqb (m .sender) 0 gives Sender ∷
+    not (sameBallot (m .ballot) (k .ballot) && isSet (k .fast)) gives Stale ∷ []
+
+-- "The held history must extend the proven one (BEHIND)"; REUSED, NOTHING and FULL against what is held
+abbrev pub proposeRules : Marks → List ℕ → List ℕ → Frame → List ℕ → List Rule
+proposeRules k held proven m h =
+    proposeHeading k m
+    ++ (requestRules (m .sender) h
+    ++ (not (extends held proven) gives Behind ∷
+    reuses held h gives Reused ∷
+    nothingNew held h gives Nothing ∷
+    overflows limit held h gives Full ∷ []))
+
+-- "Commands not held are appended, result canonical; answers VERIFY as above."
+unfoldable pub lengthened : List ℕ → List ℕ → List ℕ
+lengthened held h = canonical (appended held h)
+
+-- ---- VERIFY of h
+
+-- "sender ≥ N"; "view and ballot equal"
+abbrev pub verifyHeading : Roster → View → Marks → Frame → List Rule
+verifyHeading r view k m =
+    leb (r .n) (m .sender) gives Sender ∷
+    not (sameView (m .view) view && sameBallot (m .ballot) (k .ballot)) gives Stale ∷ []
+
+-- CONTRADICTION: "sender's stored history and this one: neither extends the other"
+unfoldable pub contradicts : List ℕ → List ℕ → Bool
+contradicts entry h = not (extends h entry) && not (extends entry h)
+
+abbrev pub verifyRules : Roster → View → Marks → List ℕ → Frame → List ℕ → List Rule
+verifyRules r view k entry m h = verifyHeading r view k m ++ (historyRules h ++ (contradicts entry h gives Contradiction ∷ []))
+
+-- whether an entry equals it, and the mask of those that do
+abbrev pub matches : Table → List ℕ → ℕ → Bool
+matches t h i = equal (rowOf t i) h
+
+unfoldable pub certificateOf : Roster → Table → List ℕ → ℕ
+certificateOf r t h = maskTo (r .n) (matches t h)
+
+-- "If stored and N-f entries equal it, and it extends the proven history, and it isn't already proven in this ballot"
+unfoldable pub convinces : Roster → Marks → List ℕ → ℕ → List ℕ → Bool
+convinces r k proven mask h =
+    reaches mask (quorum r) && (extends h proven && not (equal proven h && sameBallot (k .«proven_ballot») (k .ballot)))
+
+abbrev pub proves : Roster → State → Table → List ℕ → Bool
+proves r s t h = convinces r (marksOf s) (provenOf s) (certificateOf r t h) h
+
+-- the state with the table, and that in which h is proven
+abbrev pub storing : State → Table → State
+storing s t =
+    record {
+      ballot = s .ballot;
+      fast = s .fast;
+      signed = s .signed;
+      held = s .held;
+      proven = s .proven;
+      «proven_ballot» = s .«proven_ballot»;
+      certificate = s .certificate;
+      verified = t;
+    }
+
+abbrev pub proving : State → Table → ℕ → List ℕ → State
+proving s t mask h =
+    record {
+      ballot = s .ballot;
+      fast = s .fast;
+      signed = s .signed;
+      held = s .held;
+      proven = stored h;
+      «proven_ballot» = s .ballot;
+      certificate = mask;
+      verified = t;
+    }
+
+-- P2B of h in the present ballot, with the mask of its certificate
+abbrev pub p2b : ℕ → State → ℕ → List ℕ → Frame
+p2b own s mask h = message 7 own (record { 0 = 0 }) (s .ballot) (record { 0 = 0 }) mask h []
+
+-- "it becomes proven and a P2B goes out, its mask those entries. Otherwise no answer."
+unfoldable pub store : Roster → ℕ → State → Table → List ℕ → Reply State
+store r own s t h =
+    cond (proves r s t h)
+    (accept (proving s t (certificateOf r t h) h) (sends (p2b own s (certificateOf r t h) h)))
+    (accept (storing s t) silent)
+
+-- "Stored if it extends the site's entry; accepted without effect if the entry is longer and extends it."
+unfoldable pub verifying : Roster → ℕ → State → ℕ → List ℕ → Reply State
+verifying r own s site h = cond (extends h (rowOf (s .verified) site)) (store r own s (storedAt (s .verified) site h) h) (accept s silent)
+
+-- ---- the step: "Checks run in this order; the first that applies is given."
 
 -- CONFIG: roster, own number and buffer; "lent state with a count over 32, a wrong command, a repeated proposer and serial in one list, a stored
 -- history not canonical, or a mask bit or entry at N or above", the record's masks among them
@@ -88,227 +267,28 @@ config r own room v s =
 abbrev pub form : List ℕ → Bool
 form line = malformed line taken
 
--- SENDER: "sender ≥ N (PROPOSE instead: sender 0); P1A, FAST or P2A not from the frame's view mod N"
-unfoldable pub notLeader : Roster → Frame → Bool
-notLeader r m = leb (r .n) (m .sender) || not (eqb (m .sender) (leaderOf r (m .view)))
-
-abbrev pub sender : Kind → Roster → Frame → Bool
-sender P1A r m = notLeader r m
-sender FAST r m = notLeader r m
-sender PROPOSE r m = eqb (m .sender) 0
-sender P2A r m = notLeader r m
-sender VERIFY r m = leb (r .n) (m .sender)
-
--- STALE: "P1A, FAST: view equal, ballot greater than its own"; "P2A: view and ballot equal and classic"; "PROPOSE: ballot equal and fast";
--- "VERIFY: view and ballot equal"
-unfoldable pub sameView : ViewRecord → Frame → Bool
-sameView v m = eqb (m .view .0) (v .view .0)
-
-unfoldable pub sameBallot : State → Frame → Bool
-sameBallot s m = eqb (m .ballot .0) (s .ballot .0)
-
-abbrev pub opens : ViewRecord → State → Frame → Bool
-opens v s m = sameView v m && ltb (s .ballot .0) (m .ballot .0)
-
-abbrev pub stale : Kind → ViewRecord → State → Frame → Bool
-stale P1A v s m = not (opens v s m)
-stale FAST v s m = not (opens v s m)
-stale PROPOSE v s m = not (sameBallot s m && isSet (s .fast))
-stale P2A v s m = not (sameView v m && (sameBallot s m && not (isSet (s .fast))))
-stale VERIFY v s m = not (sameView v m && sameBallot s m)
-
--- COMMAND: "a command's fields are wrong, or in PROPOSE its proposer isn't the sender"
-abbrev pub wrongIn : Kind → Frame → Bool
-wrongIn P1A m = false
-wrongIn FAST m = false
-wrongIn PROPOSE m = wrong (carried m) || not (allBy (m .sender) (carried m))
-wrongIn P2A m = wrong (carried m)
-wrongIn VERIFY m = wrong (carried m)
-
--- HISTORY: "proposer and serial repeated; not canonical (PROPOSE may be); n = 0 in kinds 4 to 7"
-abbrev pub improperIn : Kind → Frame → Bool
-improperIn P1A m = false
-improperIn FAST m = false
-improperIn PROPOSE m = repeated (carried m) || eqb (length (carried m)) 0
-improperIn P2A m = improper (carried m)
-improperIn VERIFY m = improper (carried m)
-
--- BEHIND: P2A "must extend the proven one and, if it signed in this ballot, the held one"; PROPOSE "The held history must extend the proven one"
-unfoldable pub behindOf : State → List ℕ → Bool
-behindOf s h = not (extends h (provenOf s)) || (isSet (s .signed) && not (extends h (heldOf s)))
-
-abbrev pub behind : Kind → State → Frame → Bool
-behind P1A s m = false
-behind FAST s m = false
-behind PROPOSE s m = not (extends (heldOf s) (provenOf s))
-behind P2A s m = behindOf s (carried m)
-behind VERIFY s m = false
-
--- REUSED: "in PROPOSE: a command's proposer and serial are held with other bytes"
-abbrev pub reused : Kind → State → Frame → Bool
-reused P1A s m = false
-reused FAST s m = false
-reused PROPOSE s m = reuses (heldOf s) (carried m)
-reused P2A s m = false
-reused VERIFY s m = false
-
--- CONTRADICTION: "sender's stored history and this one: neither extends the other"
-unfoldable pub entryOf : State → Frame → List ℕ
-entryOf s m = rowOf (s .verified) (m .sender)
-
-abbrev pub contradicts : Kind → State → Frame → Bool
-contradicts P1A s m = false
-contradicts FAST s m = false
-contradicts PROPOSE s m = false
-contradicts P2A s m = false
-contradicts VERIFY s m = not (extends (carried m) (entryOf s m)) && not (extends (entryOf s m) (carried m))
-
--- NOTHING: "in PROPOSE: all commands are held already"
-abbrev pub nothing : Kind → State → Frame → Bool
-nothing P1A s m = false
-nothing FAST s m = false
-nothing PROPOSE s m = nothingNew (heldOf s) (carried m)
-nothing P2A s m = false
-nothing VERIFY s m = false
-
--- FULL: "the result would exceed 32 commands"
-abbrev pub full : Kind → State → Frame → Bool
-full P1A s m = false
-full FAST s m = false
-full PROPOSE s m = ltb limit (length (appended (heldOf s) (carried m)))
-full P2A s m = false
-full VERIFY s m = false
-
--- ---- the frames that an acceptor sends
-
--- P1B, with the proven history, its ballot and mask, and the held one
-abbrev pub p1b : ℕ → State → Ballot → Frame
-p1b own s ballot = message 3 own (record { 0 = 0 }) ballot (s .certified) (s .certificate) (provenOf s) (heldOf s)
-
--- VERIFY of h in the present view and ballot
-abbrev pub verify : ℕ → ViewRecord → State → List ℕ → Frame
-verify own v s h = message 6 own (v .view) (s .ballot) (record { 0 = 0 }) 0 h []
-
--- P2B of h in the present ballot, with the mask of its certificate
-abbrev pub p2b : ℕ → State → ℕ → List ℕ → Frame
-p2b own s mask h = message 7 own (record { 0 = 0 }) (s .ballot) (record { 0 = 0 }) mask h []
-
--- ---- an accepted frame
-
--- P1A, FAST: "Takes the ballot, forgets the VERIFY table and that it signed."
-abbrev pub inBallot : State → Ballot → ℕ → State
-inBallot s ballot fast =
-    record {
-      ballot = ballot;
-      fast = fast;
-      signed = 0;
-      held = s .held;
-      proven = s .proven;
-      certified = s .certified;
-      certificate = s .certificate;
-      verified = emptyTable;
-    }
-
--- P2A: "It becomes held; answers VERIFY, which replaces its own entry but proves nothing yet."
-abbrev pub signing : ℕ → State → List ℕ → State
-signing own s h =
-    record {
-      ballot = s .ballot;
-      fast = s .fast;
-      signed = 1;
-      held = stored h;
-      proven = s .proven;
-      certified = s .certified;
-      certificate = s .certificate;
-      verified = storedAt (s .verified) own h;
-    }
-
-unfoldable pub sign : ℕ → ViewRecord → State → List ℕ → Reply State
-sign own v s h = accept (signing own s h) (sends (verify own v s h))
-
--- VERIFY: the table with it, and the mask of the entries that equal it
-abbrev pub verifiedBy : State → Frame → Table
-verifiedBy s m = storedAt (s .verified) (m .sender) (carried m)
-
-abbrev pub matches : Table → List ℕ → ℕ → Bool
-matches t h i = equal (rowOf t i) h
-
-unfoldable pub certificateOf : Roster → Table → List ℕ → ℕ
-certificateOf r t h = maskTo (r .n) (matches t h)
-
--- "If stored and N-f entries equal it, and it extends the proven history, and it isn't already proven in this ballot"
-unfoldable pub proves : Roster → State → Table → List ℕ → Bool
-proves r s t h =
-    reaches (certificateOf r t h) (quorum r)
-    && (extends h (provenOf s) && not (equal (provenOf s) h && eqb (s .certified .0) (s .ballot .0)))
-
--- the state with the table, and that in which h is proven
-abbrev pub storing : State → Table → State
-storing s t =
-    record {
-      ballot = s .ballot;
-      fast = s .fast;
-      signed = s .signed;
-      held = s .held;
-      proven = s .proven;
-      certified = s .certified;
-      certificate = s .certificate;
-      verified = t;
-    }
-
-abbrev pub proving : State → Table → ℕ → List ℕ → State
-proving s t mask h =
-    record {
-      ballot = s .ballot;
-      fast = s .fast;
-      signed = s .signed;
-      held = s .held;
-      proven = stored h;
-      certified = s .ballot;
-      certificate = mask;
-      verified = t;
-    }
-
--- "it becomes proven and a P2B goes out, its mask those entries. Otherwise no answer."
-unfoldable pub store : Roster → ℕ → State → Table → List ℕ → Reply State
-store r own s t h =
-    cond (proves r s t h)
-    (accept (proving s t (certificateOf r t h) h) (sends (p2b own s (certificateOf r t h) h)))
-    (accept (storing s t) silent)
-
--- "Stored if it extends the site's entry; accepted without effect if the entry is longer and extends it."
-abbrev pub accepted : Kind → Roster → ℕ → ViewRecord → State → Frame → Reply State
-accepted P1A r own v s m = accept (inBallot s (m .ballot) 0) (sends (p1b own s (m .ballot)))
-accepted FAST r own v s m = accept (inBallot s (m .ballot) 1) silent
-accepted PROPOSE r own v s m = sign own v s (canonical (appended (heldOf s) (carried m)))
-accepted P2A r own v s m = sign own v s (carried m)
-accepted VERIFY r own v s m = cond (extends (carried m) (entryOf s m)) (store r own s (verifiedBy s m) (carried m)) (accept s silent)
-
--- ---- the step: "Checks run in this order; the first that applies is given."
-
 -- the checks of a frame of a kind
-abbrev pub frameRules : Kind → Roster → ViewRecord → State → Frame → List Rule
-frameRules k r v s m =
-    sender k r m gives Sender ∷
-    stale k v s m gives Stale ∷
-    wrongIn k m gives Command ∷
-    improperIn k m gives History ∷
-    behind k s m gives Behind ∷
-    reused k s m gives Reused ∷
-    contradicts k s m gives Contradiction ∷
-    nothing k s m gives Nothing ∷
-    full k s m gives Full ∷ []
+abbrev pub frameRules : Kind → Roster → View → Marks → List ℕ → List ℕ → List ℕ → Frame → List Rule
+frameRules P1A r view k held proven entry m = openingRules r view k m
+frameRules FAST r view k held proven entry m = openingRules r view k m
+frameRules PROPOSE r view k held proven entry m = proposeRules k held proven m (carried m)
+frameRules P2A r view k held proven entry m = orderRules r view k held proven m (carried m)
+frameRules VERIFY r view k held proven entry m = verifyRules r view k entry m (carried m)
 
--- what a frame of a kind gives
-abbrev pub heard : Kind → Roster → ℕ → ViewRecord → State → Frame → Reply State
-heard k r own v s m = judged (refuse s) (accepted k r own v s m) (frameRules k r v s m)
+-- the checks of a frame in a state, and all checks of a line
+abbrev pub rulesIn : Roster → ViewRecord → State → Frame → List Rule
+rulesIn r v s m = frameRules (kindOf (m .kind)) r (v .view) (marksOf s) (heldOf s) (provenOf s) (entryOf s m) m
 
--- all checks of a line
 abbrev pub rules : Roster → ℕ → ℕ → ViewRecord → State → List ℕ → List Rule
-rules r own room v s line =
-    config r own room v s gives Config ∷
-    form line gives Form ∷
-    frameRules (kindOf (received line .kind)) r v s (received line)
+rules r own room v s line = config r own room v s gives Config ∷ form line gives Form ∷ rulesIn r v s (received line)
+
+-- what an accepted frame of a kind does
+abbrev pub accepted : Kind → Roster → ℕ → ViewRecord → State → Frame → Reply State
+accepted P1A r own v s m = opening false own s (m .ballot)
+accepted FAST r own v s m = opening true own s (m .ballot)
+accepted PROPOSE r own v s m = sign own v s (lengthened (heldOf s) (carried m))
+accepted P2A r own v s m = sign own v s (carried m)
+accepted VERIFY r own v s m = verifying r own s (m .sender) (carried m)
 
 -- what a call does; `room` is the length of the lent buffer, and the view is that of the view-change record v
 unfoldable pub step : Roster → ℕ → ℕ → ViewRecord → State → List ℕ → Reply State

@@ -2,7 +2,7 @@
 use mathlib.Core.Path.{_≡_, refl, sym, _∙_, subst}
 use mathlib.Core.Logic.{_⊎_, inl, inr}
 use mathlib.Core.Bool.{Bool, true, false}
-use mathlib.Core.List.{List}
+use mathlib.Core.List.{List, _∷_}
 use Prim.Native.Nat.{ℕ, _≤_}
 use native.Mathlib.Omega.{arith}
 use lib.ListN.{length, length-take}
@@ -15,8 +15,13 @@ use Rattle.history.specs.ExtensionLaws.{extends-refl, extends-sound}
 use Rattle.history.specs.Words.{limit}
 use Rattle.history.specs.WordsLaws.{commands-stored}
 use Rattle.merge.specs.Merge.{appended}
+use Rattle.table.specs.declared.Table.{Table}
+use Rattle.table.specs.Table.{storedAt}
 use Rattle.refusal.specs.declared.Refusal.{Refusal}
-use Rattle.refusal.specs.JudgedLaws.{GivenFirst, NoneHolds, passed, pass, Judgement, refused, accepts, judgement, rising}
+use Rattle.refusal.specs.declared.Refusal.the-variants.{Config, Form}
+use Rattle.refusal.specs.Rules.{_gives_}
+use Rattle.refusal.specs.Order.{inOrder, follows}
+use Rattle.refusal.specs.JudgedLaws.{GivenFirst, NoneHolds, pass, Judgement, refused, accepts, judgement}
 use Rattle.frame.specs.declared.Frame.{Frame}
 use Rattle.frame.specs.Layout.{first}
 use Rattle.frame.specs.FormatLaws.{read-n}
@@ -38,32 +43,29 @@ use Rattle.acceptor.specs.Acceptor.{
   carried,
   heldOf,
   provenOf,
+  marksOf,
+  entryOf,
   config,
   form,
-  sender,
-  stale,
-  wrongIn,
-  improperIn,
-  behind,
-  reused,
-  entryOf,
-  contradicts,
-  nothing,
-  full,
+  frameRules,
+  rulesIn,
+  rules,
   p1b,
   verify,
   p2b,
   inBallot,
+  lengthened,
+  opening,
   signing,
   sign,
-  verifiedBy,
   certificateOf,
+  convinces,
   proves,
   storing,
   proving,
   store,
+  verifying,
   accepted,
-  rules,
   step,
 }
 
@@ -77,15 +79,7 @@ kindIn line = kindOf (received line .kind)
 pub record Accepts (r : Roster) (own room : ℕ) (v : ViewRecord) (s : State) (line : List ℕ) : Type 0 where
   pub configured : config r own room v s ≡ false
   pub framed : form line ≡ false
-  pub from-sender : sender (kindIn line) r (received line) ≡ false
-  pub timely : stale (kindIn line) v s (received line) ≡ false
-  pub right : wrongIn (kindIn line) (received line) ≡ false
-  pub proper : improperIn (kindIn line) (received line) ≡ false
-  pub ahead : behind (kindIn line) s (received line) ≡ false
-  pub unused : reused (kindIn line) s (received line) ≡ false
-  pub agrees : contradicts (kindIn line) s (received line) ≡ false
-  pub something : nothing (kindIn line) s (received line) ≡ false
-  pub fits : full (kindIn line) s (received line) ≡ false
+  pub passes : NoneHolds (rulesIn r v s (received line))
   pub outcome : step r own room v s line ≡ accepted (kindIn line) r own v s (received line)
 
 pub data Stepped (r : Roster) (own room : ℕ) (v : ViewRecord) (s : State) (line : List ℕ) : Type 0 where
@@ -96,31 +90,29 @@ pub stepped : (r : Roster) (own room : ℕ) (v : ViewRecord) (s : State) (line :
 unfolding step
 stepped r own room v s line = go (judgement (refuse s) (accepted (kindIn line) r own v s (received line)) (rules r own room v s line))
   where
-    none : NoneHolds (rules r own room v s line) → step r own room v s line ≡ accepted (kindIn line) r own v s (received line) → Accepts r own room v s line
-    none (pass a (pass b (pass c (pass d (pass e (pass f (pass g (pass h (pass i (pass j (pass k passed))))))))))) o =
-        record {
-          configured = a;
-          framed = b;
-          from-sender = c;
-          timely = d;
-          right = e;
-          proper = f;
-          ahead = g;
-          unused = h;
-          agrees = i;
-          something = j;
-          fits = k;
-          outcome = o;
-        }
-
     go : Judgement (refuse s) (accepted (kindIn line) r own v s (received line)) (rules r own room v s line) → Stepped r own room v s line
     go (refused e g o) = refuses e g o
-    go (accepts n o) = accepting (none n o)
+    go (accepts (pass a (pass b n)) o) = accepting (record { configured = a; framed = b; passes = n; outcome = o })
 
--- "Checks run in this order": the numbers of the rules rise
-pub rules-rise : (r : Roster) (own room : ℕ) (v : ViewRecord) (s : State) (line : List ℕ) → rising 0 (rules r own room v s line) ≡ true
-unfolding rising
-rules-rise r own room v s line = refl
+-- "Checks run in this order": the rules follow the order of the table of refusals
+pub rules-follow : (r : Roster) (own room : ℕ) (v : ViewRecord) (s : State) (line : List ℕ) → follows inOrder (rules r own room v s line) ≡ true
+unfolding follows
+rules-follow r own room v s line = go (kindIn line)
+  where
+    go : (k : Kind)
+        → follows inOrder
+        (config r own room v s gives Config ∷
+        form line gives Form ∷
+        frameRules k r (v .view) (marksOf s) (heldOf s) (provenOf s) (entryOf s (received line)) (received line)) ≡ true
+    go P1A = refl
+    go FAST = refl
+    go PROPOSE = refl
+    go P2A = refl
+    go VERIFY = refl
+
+-- the table with a VERIFY stored in it
+abbrev pub verifiedBy : State → Frame → Table
+verifiedBy s m = storedAt (s .verified) (m .sender) (carried m)
 
 -- what an accepted frame does: a ballot is opened, a history is signed, a VERIFY proves its history, is stored only, or has no effect
 pub data Effect (r : Roster) (own : ℕ) (v : ViewRecord) (s : State) (m : Frame) : Reply State → Type 0 where
@@ -135,7 +127,7 @@ pub data Effect (r : Roster) (own : ℕ) (v : ViewRecord) (s : State) (m : Frame
   ignores : Effect r own v s m (accept s silent)
 
 pub effect : (k : Kind) (r : Roster) (own : ℕ) (v : ViewRecord) (s : State) (m : Frame) → Effect r own v s m (accepted k r own v s m)
-unfolding sign store
+unfolding opening sign lengthened store verifying
 effect P1A r own v s m = opens-classic
 effect FAST r own v s m = opens-fast
 effect PROPOSE r own v s m = signs (canonical (appended (heldOf s) (carried m)))
@@ -152,7 +144,7 @@ effect VERIFY r own v s m = go (extends (carried m) (entryOf s m)) (proves r s (
 
 -- what is proven next extends the proven history
 proves-extends : (r : Roster) (s : State) (m : Frame) → proves r s (verifiedBy s m) (carried m) ≡ true → Extends (carried m) (provenOf s)
-unfolding proves
+unfolding convinces
 proves-extends r s m e =
     let h = carried m in
     extends-sound h (provenOf s)

@@ -37,6 +37,8 @@ use Rattle.table.specs.declared.Table.{Table}
 use Rattle.table.specs.Table.{validTable}
 use Rattle.table.specs.ValidLaws.{valid-stored, valid-empty}
 use Rattle.refusal.specs.declared.Refusal.{Refusal}
+use Rattle.refusal.specs.declared.Refusal.the-variants.{Sender, Command, History, Full}
+use Rattle.refusal.specs.JudgedLaws.{NoneHolds, testOf, no-test}
 use Rattle.frame.specs.declared.Frame.{Frame}
 use Rattle.frame.specs.Kinds.{uses, isKind, unusedZero, zeroUnless}
 use Rattle.frame.specs.Format.{proper, writable}
@@ -62,13 +64,11 @@ use Rattle.acceptor.specs.Acceptor.{
   carried,
   heldOf,
   provenOf,
+  marksOf,
+  entryOf,
   config,
   form,
-  sender,
-  wrongIn,
-  improperIn,
-  full,
-  entryOf,
+  frameRules,
   p1b,
   verify,
   p2b,
@@ -237,22 +237,25 @@ module _ {r : Roster} {own room : ℕ} {v : ViewRecord} {s : State} {line : List
       go false y e f = rw e on-none
 
   -- a frame of each kind, with what its checks say
-  on-kind : Accepts r own room v s line → (k : Kind) → sender k r (received line) ≡ false → wrongIn k (received line) ≡ false
-      → improperIn k (received line) ≡ false → full k s (received line) ≡ false → P (accepted k r own v s (received line))
-  unfolding sign
-  on-kind a P1A e f g h = on-classic a
-  on-kind a FAST e f g h = on-fast a
-  on-kind a PROPOSE e f g h =
+  on-kind : Accepts r own room v s line → (k : Kind)
+      → NoneHolds (frameRules k r (v .view) (marksOf s) (heldOf s) (provenOf s) (entryOf s (received line)) (received line))
+      → P (accepted k r own v s (received line))
+  unfolding sign testOf
+  on-kind a P1A n = on-classic a
+  on-kind a FAST n = on-fast a
+  on-kind a PROPOSE n =
       let lent = configured-is r own room v s (a .configured) .lent in
       on-sign a (canonical (appended (heldOf s) (carried (received line))))
-      (appended-checked s line (a .framed) (lent .held-valid) (or-left (wrong (carried (received line))) _ f) (ltb-false limit _ h))
-  on-kind a P2A e f g h = on-sign a (carried (received line)) (carried-checked s line (a .framed) f g)
-  on-kind a VERIFY e f g h = on-verify a (leb-false (r .n) (received line .sender) e) (carried-checked s line (a .framed) f g)
+      (appended-checked s line (a .framed) (lent .held-valid) (or-left (wrong (carried (received line))) _ (no-test n Command))
+      (ltb-false limit _ (no-test n Full)))
+  on-kind a P2A n = on-sign a (carried (received line)) (carried-checked s line (a .framed) (no-test n Command) (no-test n History))
+  on-kind a VERIFY n =
+      on-verify a (leb-false (r .n) (received line .sender) (no-test n Sender))
+      (carried-checked s line (a .framed) (no-test n Command) (no-test n History))
 
   replies : Stepped r own room v s line → P (step r own room v s line)
   replies (refuses e g o) = rw o (on-refusal e)
-  replies (accepting a) =
-      subst P (sym (a .outcome)) (on-kind a (kindOf (received line .kind)) (a .from-sender) (a .right) (a .proper) (a .fits))
+  replies (accepting a) = subst P (sym (a .outcome)) (on-kind a (kindOf (received line .kind)) (a .passes))
 
 -- a step that sends has passed CONFIG
 config-passed : (r : Roster) (own room : ℕ) (v : ViewRecord) (s : State) (line : List ℕ) {m : Frame} → step r own room v s line .sending ≡ sends m

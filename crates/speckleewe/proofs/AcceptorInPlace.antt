@@ -48,7 +48,7 @@ use Rattle.site.proofs.ViewRecord as Q
 use Rattle.site.proofs.ViewRecord.Laws as Q′
 use Rattle.acceptor.specs.declared.State.{State}
 use Rattle.acceptor.specs.declared.Marks.{Marks}
-use Rattle.acceptor.specs.Parts.{marksOf}
+use Rattle.acceptor.specs.Acceptor.{marksOf}
 use Rattle.acceptor.proofs.State as T
 use Rattle.acceptor.proofs.State.Laws as T′
 use Rattle.acceptor.proofs.Marks as K

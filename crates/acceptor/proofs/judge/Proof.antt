@@ -1,66 +1,69 @@
--- `acceptor::judge` meets its contract: it asks the test of CONFIG that it is given and that of FORM, and tells the kinds that open a ballot from those
--- that carry a history.
+-- `acceptor::judge` meets its contract: the rules of each kind are those of its module.
 -- Assumes nothing.
+use native.Mathlib.Omega.{arith}
+use lib.ListN.{length-take}
+use Rattle.table.specs.TableLaws.{length-row}
 use borrow.Author.Needs.{needs}
-use Rattle.refusal.specs.Rules.{judged}
-use Rattle.acceptor.specs.Verdict.{onOpening, onFrame}
-use Rattle.acceptor.specs.VerdictLaws.{ruled-kept, kept-opening}
-use Rattle.acceptor.proofs.Tests.{refusing}
 use Rattle.acceptor.proofs.judge.Statement.{statement}
 use Rattle.acceptor.proofs.judge.Tie as tie
 
-against-requires : tie.Need-against-requires
-against-requires c κs = search needs
+check-requires : tie.Need-check-requires
+check-requires c κs = search needs
 
 returns : tie.Need-returns
-unfolding judged
-returns c = rw (c .before .if1 .taken) (refusing (c .before .before .before .before .before .before .args .buf .now) (c .against .ensures))
+returns c = rw (c .before .if1 .taken) (c .check .ensures)
 
-against-requires-2 : tie.Need-against-requires-2
-against-requires-2 c κs = search needs
+check-requires-2 : tie.Need-check-requires-2
+check-requires-2 c κs = search needs
 
 returns-2 : tie.Need-returns-2
-unfolding judged
-returns-2 c = rw (c .before .before .if1 .left, c .before .if2 .taken) (refusing (c .before .before .before .before .before .before .before .args .buf .now) (c .against2 .ensures))
+returns-2 c = rw (c .before .before .before .if1 .left, c .before .if2 .taken) (c .check2 .ensures)
 
-start-requires : tie.Need-start-requires
-start-requires c κs = search needs
+cast-first : tie.Need-cast-first
+cast-first c = search needs
+
+first-requires : tie.Need-first-requires
+first-requires c κs = search needs
+
+check-requires-3 : tie.Need-check-requires-3
+check-requires-3 c κs = c .before .before .before .before .before .before .before .before .before .before .before .before .before .pre .0
 
 returns-3 : tie.Need-returns-3
-unfolding judged onFrame
-returns-3 c =
-    let given = c .before .before .before .before .before .before .before .before .before .args in
-    rw (c .before .before .before .before .if1 .left, c .before .before .before .if2 .left, c .before .if3 .taken)
-    (ruled-kept (given .buf .now) (onOpening (given .r) (given .view) (given .marks) (given .head) 0 3) (kept-opening (given .r) (given .view) (given .marks) (given .head) 0 3 (given .buf .now)) (c .start .ensures))
+returns-3 c = rw (c .before .before .before .before .before .before .before .if1 .left, c .before .before .before .before .before .if2 .left, c .before .if3 .taken, ← c .before .before .before .first .ensures) (c .check3 .ensures)
 
-start-requires-2 : tie.Need-start-requires-2
-start-requires-2 c κs = search needs
+check-requires-4 : tie.Need-check-requires-4
+check-requires-4 c κs = rw (c .before .before .before .before .first .ensures, length-take) (omega (arith, c .before .before .before .before .before .before .before .before .before .before .before .before .before .before .before .pre .1))
 
 returns-4 : tie.Need-returns-4
-unfolding judged onFrame
-returns-4 c =
-    let given = c .before .before .before .before .before .before .before .before .before .before .before .args in
-    rw (c .before .before .before .before .before .before .if1 .left, c .before .before .before .before .before .if2 .left, c .before .before .before .if3 .left, c .before .if4 .taken)
-    (ruled-kept (given .buf .now) (onOpening (given .r) (given .view) (given .marks) (given .head) 1 0) (kept-opening (given .r) (given .view) (given .marks) (given .head) 1 0 (given .buf .now)) (c .start2 .ensures))
+returns-4 c = rw (c .before .before .before .before .before .before .before .before .before .if1 .left, c .before .before .before .before .before .before .before .if2 .left, c .before .before .before .if3 .left, c .before .if4 .taken, ← c .before .before .before .before .before .first .ensures) (c .check4 .ensures)
 
-weigh-requires : tie.Need-weigh-requires
-weigh-requires c κs = record { fit = c .before .before .before .before .before .before .before .before .before .before .before .pre .0 (c .before .before .before .before .before .before .if1 .left); short = c .before .before .before .before .before .before .before .before .before .before .before .pre .1; room = search needs }
+cast-row : tie.Need-cast-row
+cast-row c = search needs
+
+row-requires : tie.Need-row-requires
+row-requires c κs = search needs
+
+check-requires-5 : tie.Need-check-requires-5
+check-requires-5 c κs = (rw (c .row .ensures) (length-row _ _ _), rw (c .before .before .before .before .before .before .first .ensures, length-take) (omega (arith, c .before .before .before .before .before .before .before .before .before .before .before .before .before .before .before .before .before .pre .1)))
 
 returns-5 : tie.Need-returns-5
-unfolding judged onFrame
-returns-5 c = rw (c .before .before .before .before .before .before .before .if1 .left, c .before .before .before .before .before .before .if2 .left, c .before .before .before .before .if3 .left, c .before .before .if4 .left) (c .weigh .ensures)
+returns-5 c = rw (c .before .before .before .before .before .before .before .before .before .before .before .if1 .left, c .before .before .before .before .before .before .before .before .before .if2 .left, c .before .before .before .before .before .if3 .left, c .before .before .before .if4 .left, ← c .before .before .before .before .before .before .before .first .ensures, ← c .before .row .ensures) (c .check5 .ensures)
 
 pub judge-spec : {M : Type 1} → statement M
 judge-spec =
     tie.close
     (tie.spec
-    against-requires
+    check-requires
     returns
-    against-requires-2
+    check-requires-2
     returns-2
-    start-requires
+    cast-first
+    first-requires
+    check-requires-3
     returns-3
-    start-requires-2
+    check-requires-4
     returns-4
-    weigh-requires
+    cast-row
+    row-requires
+    check-requires-5
     returns-5)

@@ -24,7 +24,7 @@ returns c =
     let of-call = c .before .before .before .of in
     let of2-call = c .before .of2 in
     let empty-call = c .empty in
-    λ i. record { ballot = record { 0 = 0 }; fast = 0; signed = 0; held = of-call .ensures i; proven = of2-call .ensures i; certified = record { 0 = 0 }; certificate = 0; verified = empty-call .ensures i }
+    λ i. record { ballot = record { 0 = 0 }; fast = 0; signed = 0; held = of-call .ensures i; proven = of2-call .ensures i; «proven_ballot» = record { 0 = 0 }; certificate = 0; verified = empty-call .ensures i }
 
 pub fresh-spec : {M : Type 1} → statement M
 fresh-spec =
