@@ -61,6 +61,10 @@ config r own room v = not (seated r own room && validRecord (r .n) v)
 abbrev pub form : List ℕ → Bool
 form line = malformed line taken
 
+-- SENDER: sender ≥ N
+abbrev pub sender : Roster → ℕ → Bool
+sender r site = leb (r .n) site
+
 -- the suspicions with that of a site
 unfoldable pub suspected : ViewRecord → ℕ → ℕ
 suspected v site = withSite (v .suspicions) site
@@ -73,10 +77,10 @@ sets r v site = reaches (suspected v site) (weakCertificate r) && zeroView (v .t
 abbrev pub full : Roster → ViewRecord → ℕ → Bool
 full r v site = sets r v site && lastView (v .view)
 
--- SUSPICION of a view from a site. SENDER: "sender ≥ N"; STALE: "SUSPICION needs the current view"
+-- SUSPICION of a view from a site. STALE: "SUSPICION needs the current view"
 abbrev pub suspicionRules : Roster → ViewRecord → ℕ → View → List Rule
 suspicionRules r v site view =
-    leb (r .n) site gives Sender ∷
+    sender r site gives Sender ∷
     not (sameView view (v .view)) gives Stale ∷
     full r v site gives Full ∷ []
 
@@ -87,7 +91,7 @@ proof r mask = beyond mask (r .n) || not (reaches mask (weakCertificate r))
 -- VIEWCHANGE to a view from a site, with a mask. STALE: "VIEWCHANGE needs a view above its own and not below the target"
 abbrev pub changeRules : Roster → ViewRecord → ℕ → View → ℕ → List Rule
 changeRules r v site view mask =
-    leb (r .n) site gives Sender ∷
+    sender r site gives Sender ∷
     (not (laterView view (v .view)) || laterView (v .target) view) gives Stale ∷
     proof r mask gives Proof ∷ []
 

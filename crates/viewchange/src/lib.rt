@@ -41,6 +41,13 @@ fn config(r: Roster, own: u8, room: usize, v: ViewRecord) -> bool
     !(site::seated(r, own, room) & v.is_valid(r.n))
 }
 
+// Whether the sender is none of the sites.
+fn unknown(r: Roster, site: u8) -> bool
+    ensures { λ b. ⌜ b ≡ spec.sender r site ⌝ }
+{
+    r.n <= site
+}
+
 // Whether a site's SUSPICION sets a target: f+1 suspicions, and no target yet.
 fn sets(r: Roster, v: ViewRecord, site: u8) -> bool
     ensures { λ b. ⌜ b ≡ spec.sets r v site ⌝ }
@@ -55,11 +62,11 @@ fn on_suspicion(r: Roster, v: ViewRecord, site: u8, view: View) -> Answer
     ensures { λ a. ⌜ a ≡ answer (spec.suspicionRules r v site view) ⌝ }
 {
     let present = v.view;
-    let unknown = r.n <= site;
+    let nobody = unknown(r, site);
     let stale = !view.equals(present);
     let full = sets(r, v, site) & present.is_last();
     given(
-        unknown,
+        nobody,
         Refusal::Sender,
         given(
             stale,
@@ -82,11 +89,11 @@ fn on_change(r: Roster, v: ViewRecord, site: u8, view: View, mask: u16) -> Answe
 {
     let present = v.view;
     let target = v.target;
-    let unknown = r.n <= site;
+    let nobody = unknown(r, site);
     let stale = !view.above(present) | target.above(view);
     let lacks = unproven(r, mask);
     given(
-        unknown,
+        nobody,
         Refusal::Sender,
         given(
             stale,

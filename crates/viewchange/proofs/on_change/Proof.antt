@@ -5,6 +5,9 @@ use borrow.Author.Needs.{needs}
 use Rattle.viewchange.proofs.on_change.Statement.{statement}
 use Rattle.viewchange.proofs.on_change.Tie as tie
 
+unknown-requires : tie.Need-unknown-requires
+unknown-requires c κs = search needs
+
 above-requires : tie.Need-above-requires
 above-requires c κs = search needs
 
@@ -31,6 +34,7 @@ pub on-change-spec : {M : Type 1} → statement M
 on-change-spec =
     tie.close
     (tie.spec
+    unknown-requires
     above-requires
     above-requires-2
     unproven-requires

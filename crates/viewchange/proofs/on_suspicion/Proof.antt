@@ -5,6 +5,9 @@ use borrow.Author.Needs.{needs}
 use Rattle.viewchange.proofs.on_suspicion.Statement.{statement}
 use Rattle.viewchange.proofs.on_suspicion.Tie as tie
 
+unknown-requires : tie.Need-unknown-requires
+unknown-requires c κs = search needs
+
 equals-requires : tie.Need-equals-requires
 equals-requires c κs = search needs
 
@@ -31,6 +34,7 @@ pub on-suspicion-spec : {M : Type 1} → statement M
 on-suspicion-spec =
     tie.close
     (tie.spec
+    unknown-requires
     equals-requires
     sets-requires
     is-last-requires
