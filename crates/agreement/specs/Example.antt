@@ -122,8 +122,7 @@ unfolding
     seated validRecord
     acceptor.config acceptor.notLeader acceptor.sameView acceptor.sameBallot acceptor.behindOf acceptor.entryOf acceptor.sign
     acceptor.certificateOf acceptor.proves acceptor.store acceptor.step
-    viewchange.isSuspicion viewchange.config viewchange.sender viewchange.stale viewchange.proof viewchange.suspected viewchange.sets viewchange.full
-    viewchange.notice viewchange.suspicion viewchange.accepted viewchange.step
+    viewchange.config viewchange.suspected viewchange.sets viewchange.suspicion viewchange.step
 premises-hold = premises-tested world 2 others refl
 
 -- both learners have then learned A, so the claim speaks of something

@@ -1,2 +1,2 @@
 -- Laws that the proofs of this crate share.
-mod Tests
+mod Calls

@@ -2,23 +2,26 @@
 use mathlib.Core.Bool.{Bool, not, cond, _&&_, _||_}
 use mathlib.Core.List.{List, [], _∷_}
 use Prim.Native.Nat.{ℕ, _+_}
-use lib.Dec.{leb, ltb, eqb}
-use lib.ListN.{length, replicate}
+use lib.Dec.{leb, eqb}
+use lib.ListN.{length}
 use Rattle.roster.specs.declared.Roster.{Roster}
 use Rattle.roster.specs.declared.View.{View}
 use Rattle.roster.specs.Roster.{quorum, weakCertificate}
+use Rattle.roster.specs.Counts.{sameView, laterView, zeroView, lastView}
 use Rattle.roster.specs.Mask.{reaches, beyond, withSite}
 use Rattle.refusal.specs.declared.Refusal.the-variants.{Config, Form, Sender, Stale, Proof, Full}
 use Rattle.refusal.specs.Rules.{Rule, _gives_, judged}
 use Rattle.frame.specs.declared.Frame.{Frame}
-use Rattle.frame.specs.Layout.{capacity}
 use Rattle.frame.specs.Format.{lineOf, readingOf, malformed}
 use Rattle.site.specs.declared.ViewRecord.{ViewRecord}
 use Rattle.site.specs.Site.{seated, validRecord}
+use Rattle.site.specs.Message.{message}
 use Rattle.site.specs.Reply.{silent, sends, Reply, refuse, accept, lengthSent, buffer}
 use Rattle.viewchange.specs.declared.Outcome.{Outcome}
 
--- the kinds of frames taken and sent
+-- ---- the frames taken and sent
+
+-- their kinds
 abbrev pub suspicionKind : ℕ
 suspicionKind = 8
 
@@ -28,19 +31,27 @@ changeKind = 9
 abbrev pub leaderKind : ℕ
 leaderKind = 10
 
--- SUSPICION and VIEWCHANGE as a set of kinds: bits 8 and 9
+-- SUSPICION and VIEWCHANGE are taken: a set of kinds, bits 8 and 9
 abbrev pub taken : ℕ
 taken = 768
+
+pub data Kind : Type 0 where
+  SUSPICION : Kind
+  VIEWCHANGE : Kind
+
+-- the kind of a number of `taken`
+abbrev pub kindOf : ℕ → Kind
+kindOf k = cond (eqb k suspicionKind) SUSPICION VIEWCHANGE
 
 -- the frame that a line holds
 abbrev pub received : List ℕ → Frame
 received line = readingOf line taken .frame
 
--- whether it is a SUSPICION; if not, it is a VIEWCHANGE
-unfoldable pub isSuspicion : Frame → Bool
-isSuspicion m = eqb (m .kind) suspicionKind
+-- a frame of this kind from `own` for a view, with a mask and no commands
+abbrev pub notice : ℕ → ℕ → View → ℕ → Frame
+notice kind own view mask = message kind own view (record { 0 = 0 }) (record { 0 = 0 }) mask [] []
 
--- ---- the refusals
+-- ---- the refusals: "Checks run in this order; the first that applies is given."
 
 -- CONFIG: roster, own number and buffer; "a mask bit at N or above"
 unfoldable pub config : Roster → ℕ → ℕ → ViewRecord → Bool
@@ -51,110 +62,102 @@ abbrev pub form : List ℕ → Bool
 form line = malformed line taken
 
 -- SENDER: sender ≥ N
-unfoldable pub sender : Roster → Frame → Bool
-sender r m = leb (r .n) (m .sender)
+abbrev pub sender : Roster → ℕ → Bool
+sender r site = leb (r .n) site
 
--- STALE: "SUSPICION needs the current view"; "VIEWCHANGE needs a view above its own and not below the target"
-unfoldable pub stale : ViewRecord → Frame → Bool
-stale v m = cond (isSuspicion m) (not (eqb (m .view .0) (v .view .0))) (leb (m .view .0) (v .view .0) || ltb (m .view .0) (v .target .0))
+-- the suspicions with that of a site
+unfoldable pub suspected : ViewRecord → ℕ → ℕ
+suspected v site = withSite (v .suspicions) site
 
--- PROOF: in a VIEWCHANGE, a mask bit at N or above, or fewer than f+1 ones
-unfoldable pub proof : Roster → Frame → Bool
-proof r m = not (isSuspicion m) && (beyond (m .mask) (r .n) || not (reaches (m .mask) (weakCertificate r)))
-
--- the suspicions with the sender's
-unfoldable pub suspected : ViewRecord → Frame → ℕ
-suspected v m = withSite (v .suspicions) (m .sender)
-
--- whether a SUSPICION sets a target: "At f+1 ones or more, if no target is set (0)"
-unfoldable pub sets : Roster → ViewRecord → Frame → Bool
-sets r v m = reaches (suspected v m) (weakCertificate r) && eqb (v .target .0) 0
+-- whether a site's SUSPICION sets a target: "At f+1 ones or more, if no target is set (0)"
+unfoldable pub sets : Roster → ViewRecord → ℕ → Bool
+sets r v site = reaches (suspected v site) (weakCertificate r) && zeroView (v .target)
 
 -- FULL: "the view would pass 4,294,967,295"
-abbrev pub lastView : ℕ
-lastView = 4294967295
+abbrev pub full : Roster → ViewRecord → ℕ → Bool
+full r v site = sets r v site && lastView (v .view)
 
-unfoldable pub full : Roster → ViewRecord → Frame → Bool
-full r v m = isSuspicion m && (sets r v m && leb lastView (v .view .0))
+-- SUSPICION of a view from a site. STALE: "SUSPICION needs the current view"
+abbrev pub suspicionRules : Roster → ViewRecord → ℕ → View → List Rule
+suspicionRules r v site view =
+    sender r site gives Sender ∷
+    not (sameView view (v .view)) gives Stale ∷
+    full r v site gives Full ∷ []
+
+-- PROOF: "a mask bit at N or above", or fewer than f+1 ones
+unfoldable pub proof : Roster → ℕ → Bool
+proof r mask = beyond mask (r .n) || not (reaches mask (weakCertificate r))
+
+-- VIEWCHANGE to a view from a site, with a mask. STALE: "VIEWCHANGE needs a view above its own and not below the target"
+abbrev pub changeRules : Roster → ViewRecord → ℕ → View → ℕ → List Rule
+changeRules r v site view mask =
+    sender r site gives Sender ∷
+    (not (laterView view (v .view)) || laterView (v .target) view) gives Stale ∷
+    proof r mask gives Proof ∷ []
+
+-- the checks of a frame of a kind, and all checks of a line
+abbrev pub frameRules : Kind → Roster → ViewRecord → Frame → List Rule
+frameRules SUSPICION r v m = suspicionRules r v (m .sender) (m .view)
+frameRules VIEWCHANGE r v m = changeRules r v (m .sender) (m .view) (m .mask)
+
+abbrev pub rules : Roster → ℕ → ℕ → ViewRecord → List ℕ → List Rule
+rules r own room v line =
+    config r own room v gives Config ∷ form line gives Form ∷ frameRules (kindOf (received line .kind)) r v (received line)
 
 -- ---- an accepted frame
 
--- a frame of this kind from `own` for a view, with a mask and nothing else: a VIEWCHANGE or LEADER
-unfoldable pub notice : ℕ → ℕ → View → ℕ → Frame
-notice kind own view mask =
-    record {
-      kind = kind;
-      sender = own;
-      view = view;
-      ballot = record { 0 = 0 };
-      proven = record { 0 = 0 };
-      mask = mask;
-      n = 0;
-      m = 0;
-      words = replicate capacity 0;
-    }
+-- the record after a site's SUSPICION that sets no target, and after one that does
+abbrev pub noted : ViewRecord → ℕ → ViewRecord
+noted v site = record { view = v .view; suspicions = suspected v site; target = v .target; changes = v .changes }
 
--- the record after a SUSPICION that sets no target, and after one that does
-abbrev pub noted : ViewRecord → Frame → ViewRecord
-noted v m = record { view = v .view; suspicions = suspected v m; target = v .target; changes = v .changes }
+abbrev pub nextView : ViewRecord → View
+nextView v = record { 0 = v .view .0 + 1 }
 
-abbrev pub targeted : ℕ → ViewRecord → Frame → ViewRecord
-targeted own v m = record { view = v .view; suspicions = suspected v m; target = record { 0 = v .view .0 + 1 }; changes = withSite 0 own }
+abbrev pub targeted : ℕ → ViewRecord → ℕ → ViewRecord
+targeted own v site = record { view = v .view; suspicions = suspected v site; target = nextView v; changes = withSite 0 own }
 
 -- a SUSPICION: "At f+1 ones or more, if no target is set (0), target is view+1 with its own bit, and VIEWCHANGE goes out with the suspicion mask."
-unfoldable pub suspicion : Roster → ℕ → ViewRecord → Frame → Reply ViewRecord
-suspicion r own v m =
-    cond (sets r v m) (accept (targeted own v m) (sends (notice changeKind own (record { 0 = v .view .0 + 1 }) (suspected v m)))) (accept (noted v m) silent)
+unfoldable pub suspicion : Roster → ℕ → ViewRecord → ℕ → Reply ViewRecord
+suspicion r own v site =
+    cond (sets r v site) (accept (targeted own v site) (sends (notice changeKind own (nextView v) (suspected v site))))
+    (accept (noted v site) silent)
 
--- the target mask with the sender's
-unfoldable pub changed : ViewRecord → Frame → ℕ
-changed v m = withSite (v .changes) (m .sender)
+-- the target mask with a site's bit
+unfoldable pub changed : ViewRecord → ℕ → ℕ
+changed v site = withSite (v .changes) site
 
 -- the record after a VIEWCHANGE for a new target, after one for the target that is set, and in the new view
-abbrev pub restarted : ℕ → ViewRecord → Frame → ViewRecord
-restarted own v m =
-    record { view = v .view; suspicions = v .suspicions; target = m .view; changes = withSite (withSite 0 (m .sender)) own }
+abbrev pub restarted : ℕ → ViewRecord → ℕ → View → ViewRecord
+restarted own v site view = record { view = v .view; suspicions = v .suspicions; target = view; changes = withSite (withSite 0 site) own }
 
-abbrev pub joined : ViewRecord → Frame → ViewRecord
-joined v m = record { view = v .view; suspicions = v .suspicions; target = v .target; changes = changed v m }
+abbrev pub joined : ViewRecord → ℕ → ViewRecord
+joined v site = record { view = v .view; suspicions = v .suspicions; target = v .target; changes = changed v site }
 
 abbrev pub moved : ViewRecord → ViewRecord
 moved v = record { view = v .target; suspicions = 0; target = record { 0 = 0 }; changes = 0 }
 
 -- a VIEWCHANGE for a new target: "A new target restarts the mask with sender and itself and sends its own VIEWCHANGE with the frame's mask"
-unfoldable pub restart : ℕ → ViewRecord → Frame → Reply ViewRecord
-restart own v m = accept (restarted own v m) (sends (notice changeKind own (m .view) (m .mask)))
+abbrev pub restart : ℕ → ViewRecord → ℕ → View → ℕ → Reply ViewRecord
+restart own v site view mask = accept (restarted own v site view) (sends (notice changeKind own view mask))
 
 -- for the target that is set: "an equal target adds the sender. At N-f ones or more the view becomes the target, suspicions and target clear,
 -- and LEADER goes to view mod N, with the target mask."
-unfoldable pub join : Roster → ℕ → ViewRecord → Frame → Reply ViewRecord
-join r own v m =
-    cond (reaches (changed v m) (quorum r)) (accept (moved v) (sends (notice leaderKind own (v .target) (changed v m))))
-    (accept (joined v m) silent)
+unfoldable pub join : Roster → ℕ → ViewRecord → ℕ → Reply ViewRecord
+join r own v site =
+    cond (reaches (changed v site) (quorum r)) (accept (moved v) (sends (notice leaderKind own (v .target) (changed v site))))
+    (accept (joined v site) silent)
 
--- what a frame that no check refuses gives
-unfoldable pub accepted : Roster → ℕ → ViewRecord → Frame → Reply ViewRecord
-accepted r own v m = cond (isSuspicion m) (suspicion r own v m) (cond (eqb (m .view .0) (v .target .0)) (join r own v m) (restart own v m))
+-- what a frame of a kind that no check refuses gives
+abbrev pub accepted : Kind → Roster → ℕ → ViewRecord → Frame → Reply ViewRecord
+accepted SUSPICION r own v m = suspicion r own v (m .sender)
+accepted VIEWCHANGE r own v m = cond (sameView (m .view) (v .target)) (join r own v (m .sender)) (restart own v (m .sender) (m .view) (m .mask))
 
--- ---- the step: "Checks run in this order; the first that applies is given."
-
--- the checks of a frame from one of the sites, and of any frame
-abbrev pub kindRules : Roster → ViewRecord → Frame → List Rule
-kindRules r v m = stale v m gives Stale ∷ proof r m gives Proof ∷ full r v m gives Full ∷ []
-
-abbrev pub frameRules : Roster → ViewRecord → Frame → List Rule
-frameRules r v m = sender r m gives Sender ∷ kindRules r v m
-
-abbrev pub rules : Roster → ℕ → ℕ → ViewRecord → List ℕ → List Rule
-rules r own room v line = config r own room v gives Config ∷ form line gives Form ∷ frameRules r v (received line)
-
--- what a frame from one of the sites gives
-abbrev pub heard : Roster → ℕ → ViewRecord → Frame → Reply ViewRecord
-heard r own v m = judged (refuse v) (accepted r own v m) (kindRules r v m)
+-- ---- the step
 
 -- what a call does; `room` is the length of the lent buffer
 unfoldable pub step : Roster → ℕ → ℕ → ViewRecord → List ℕ → Reply ViewRecord
-step r own room v line = judged (refuse v) (accepted r own v (received line)) (rules r own room v line)
+step r own room v line =
+    judged (refuse v) (accepted (kindOf (received line .kind)) r own v (received line)) (rules r own room v line)
 
 -- "The host's own suspicion enters as a SUSPICION from itself": the line of that frame, of a view
 abbrev pub ownSuspicion : ℕ → View → List ℕ

@@ -1,26 +1,31 @@
 -- One step of view change: its outcome, the frames that it sends, and what the record keeps.
 use mathlib.Core.Path.{_≡_, refl, sym, ap, _∙_, subst}
 use mathlib.Core.Logic.{_⊎_, inl, inr, ⊎-elim}
-use mathlib.Core.Bool.{Bool, true, false, _&&_, _||_, Bool·beq}
-use mathlib.Core.List.{List}
-use Prim.Native.Nat.{ℕ, _+_, _^_, _≤_, _<_}
+use mathlib.Core.Bool.{Bool, true, false, not, _&&_, _||_, Bool·beq}
+use mathlib.Core.List.{List, _∷_}
+use Prim.Native.Nat.{ℕ, _^_, _≤_, _<_, _+_}
 use native.Mathlib.Nat.{le-refl, le-of-lt}
 use native.Mathlib.Omega.{arith}
-use borrow.Author.Tests.{leb-false, lt-leb, lt-ltb, eqb-true, ne-eqb, not-false}
+use borrow.Author.Tests.{leb-false, ltb-true, lt-leb, lt-ltb, eqb-true, ne-eqb, not-false}
 use lib.Count.{ones, onesIn}
-use lib.Dec.{leb, eqb, lit<}
+use lib.Dec.{eqb, lit<}
 use lib.ListN.{length}
 use Rattle.basics.specs.Bools.{true-or-false, and-left, and-right, or-left, beq-true, everyBelow}
+use Rattle.words.specs.Words.{padded}
 use Rattle.roster.specs.declared.Roster.{Roster}
 use Rattle.roster.specs.declared.View.{View}
 use Rattle.roster.specs.Roster.{validRoster, quorum}
 use Rattle.roster.specs.RosterLaws.{valid-figures}
+use Rattle.roster.specs.Counts.{sameView, laterView}
 use Rattle.roster.specs.Sites.{allTo}
 use Rattle.roster.specs.Mask.{bit, reaches, withSite}
 use Rattle.roster.specs.MaskLaws.{bit-out, with-past, with-old, with-ones, with-fits, with-inside}
 use Rattle.roster.specs.SitesLaws.{lt-or-le, all-each}
 use Rattle.refusal.specs.declared.Refusal.{Refusal}
-use Rattle.refusal.specs.JudgedLaws.{GivenFirst, NoneHolds, passed, pass, Judgement, refused, accepts, judgement, rising}
+use Rattle.refusal.specs.declared.Refusal.the-variants.{Config, Form, Sender, Stale, Full}
+use Rattle.refusal.specs.Rules.{_gives_}
+use Rattle.refusal.specs.Order.{inOrder, follows}
+use Rattle.refusal.specs.JudgedLaws.{GivenFirst, NoneHolds, pass, Judgement, refused, accepts, judgement, testOf, no-test}
 use Rattle.frame.specs.declared.Frame.{Frame}
 use Rattle.frame.specs.Hex.{allFit}
 use Rattle.frame.specs.Kinds.{uses, isKind, unusedZero, zeroUnless}
@@ -35,47 +40,48 @@ use Rattle.site.specs.Reply.{silent, sends, Reply, refuse, accept}
 use Rattle.site.specs.ReplyLaws.{silent-sends, sends-same, Sent, sent-line}
 use Rattle.viewchange.specs.ViewChange.{
   suspicionKind,
-  ownSuspicion,
   changeKind,
   leaderKind,
   taken,
+  Kind,
+  SUSPICION,
+  VIEWCHANGE,
+  kindOf,
   received,
-  isSuspicion,
+  notice,
   config,
   form,
-  sender,
-  stale,
-  proof,
   suspected,
   sets,
-  lastView,
-  full,
-  notice,
+  frameRules,
+  rules,
   noted,
+  nextView,
   targeted,
   suspicion,
-  restarted,
-  restart,
   changed,
+  restarted,
   joined,
   moved,
+  restart,
   join,
   accepted,
-  rules,
   step,
+  ownSuspicion,
 }
 
 -- ---- the outcome of a step
+
+-- the kind of the frame that a line holds
+abbrev kindIn : List ℕ → Kind
+kindIn line = kindOf (received line .kind)
 
 -- an accepted frame: no check applies
 pub record Accepts (r : Roster) (own room : ℕ) (v : ViewRecord) (line : List ℕ) : Type 0 where
   pub configured : config r own room v ≡ false
   pub framed : form line ≡ false
-  pub from-site : sender r (received line) ≡ false
-  pub timely : stale v (received line) ≡ false
-  pub proven : proof r (received line) ≡ false
-  pub within : full r v (received line) ≡ false
-  pub outcome : step r own room v line ≡ accepted r own v (received line)
+  pub passes : NoneHolds (frameRules (kindIn line) r v (received line))
+  pub outcome : step r own room v line ≡ accepted (kindIn line) r own v (received line)
 
 pub data Stepped (r : Roster) (own room : ℕ) (v : ViewRecord) (line : List ℕ) : Type 0 where
   refuses : (e : Refusal) → GivenFirst e (rules r own room v line) → step r own room v line ≡ refuse v e → Stepped r own room v line
@@ -83,20 +89,20 @@ pub data Stepped (r : Roster) (own room : ℕ) (v : ViewRecord) (line : List ℕ
 
 pub stepped : (r : Roster) (own room : ℕ) (v : ViewRecord) (line : List ℕ) → Stepped r own room v line
 unfolding step
-stepped r own room v line = go (judgement (refuse v) (accepted r own v (received line)) (rules r own room v line))
+stepped r own room v line = go (judgement (refuse v) (accepted (kindIn line) r own v (received line)) (rules r own room v line))
   where
-    none : NoneHolds (rules r own room v line) → step r own room v line ≡ accepted r own v (received line) → Accepts r own room v line
-    none (pass a (pass b (pass c (pass d (pass e (pass f passed)))))) o =
-        record { configured = a; framed = b; from-site = c; timely = d; proven = e; within = f; outcome = o }
-
-    go : Judgement (refuse v) (accepted r own v (received line)) (rules r own room v line) → Stepped r own room v line
+    go : Judgement (refuse v) (accepted (kindIn line) r own v (received line)) (rules r own room v line) → Stepped r own room v line
     go (refused e g o) = refuses e g o
-    go (accepts n o) = accepting (none n o)
+    go (accepts (pass a (pass b n)) o) = accepting (record { configured = a; framed = b; passes = n; outcome = o })
 
--- "Checks run in this order": the numbers of the rules rise
-pub rules-rise : (r : Roster) (own room : ℕ) (v : ViewRecord) (line : List ℕ) → rising 0 (rules r own room v line) ≡ true
-unfolding rising
-rules-rise r own room v line = refl
+-- "Checks run in this order": the rules follow the order of the table of refusals
+pub rules-follow : (r : Roster) (own room : ℕ) (v : ViewRecord) (line : List ℕ) → follows inOrder (rules r own room v line) ≡ true
+unfolding follows
+rules-follow r own room v line = go (kindIn line)
+  where
+    go : (k : Kind) → follows inOrder (config r own room v gives Config ∷ form line gives Form ∷ frameRules k r v (received line)) ≡ true
+    go SUSPICION = refl
+    go VIEWCHANGE = refl
 
 -- what CONFIG lets pass
 pub record Configured (r : Roster) (own room : ℕ) (v : ViewRecord) : Type 0 where
@@ -133,8 +139,8 @@ unfolding bareKinds bareKind everyBelow bit uses
 bare-taken = refl
 
 -- so a frame that FORM lets pass is a VIEWCHANGE if it is no SUSPICION
-pub received-change : (line : List ℕ) → form line ≡ false → isSuspicion (received line) ≡ false → received line .kind ≡ changeKind
-unfolding malformed isSuspicion
+pub received-change : (line : List ℕ) → form line ≡ false → eqb (received line .kind) suspicionKind ≡ false → received line .kind ≡ changeKind
+unfolding malformed
 received-change line e p =
     let found = not-false (readingOf line taken .found) e in
     let either = sym (taken-is (frameOf line .kind)) ∙ found-taken line taken found in
@@ -142,65 +148,62 @@ received-change line e p =
     (rw p at (subst (λ (m : Frame). (eqb (m .kind) suspicionKind || eqb (m .kind) changeKind) ≡ true) (sym (found-frame line taken found)) either))
 
 -- what an accepted frame does: a SUSPICION is noted, or sets the target; a VIEWCHANGE restarts the target, joins it, or moves to it
-pub data Effect (r : Roster) (own : ℕ) (v : ViewRecord) (m : Frame) : Reply ViewRecord → Type 0 where
-  notes : isSuspicion m ≡ true → sets r v m ≡ false → Effect r own v m (accept (noted v m) silent)
-  targets : isSuspicion m ≡ true → sets r v m ≡ true
-      → Effect r own v m (accept (targeted own v m) (sends (notice changeKind own (record { 0 = v .view .0 + 1 }) (suspected v m))))
-  restarts : isSuspicion m ≡ false → eqb (m .view .0) (v .target .0) ≡ false
-      → Effect r own v m (accept (restarted own v m) (sends (notice changeKind own (m .view) (m .mask))))
-  joins : isSuspicion m ≡ false → eqb (m .view .0) (v .target .0) ≡ true → reaches (changed v m) (quorum r) ≡ false
-      → Effect r own v m (accept (joined v m) silent)
-  moves : isSuspicion m ≡ false → eqb (m .view .0) (v .target .0) ≡ true → reaches (changed v m) (quorum r) ≡ true
-      → Effect r own v m (accept (moved v) (sends (notice leaderKind own (v .target) (changed v m))))
+pub data Effect (r : Roster) (own : ℕ) (v : ViewRecord) (m : Frame) : Kind → Reply ViewRecord → Type 0 where
+  notes : Effect r own v m SUSPICION (accept (noted v (m .sender)) silent)
+  targets : sets r v (m .sender) ≡ true
+      → Effect r own v m SUSPICION
+      (accept (targeted own v (m .sender)) (sends (notice changeKind own (nextView v) (suspected v (m .sender)))))
+  restarts : Effect r own v m VIEWCHANGE (restart own v (m .sender) (m .view) (m .mask))
+  joins : sameView (m .view) (v .target) ≡ true → reaches (changed v (m .sender)) (quorum r) ≡ false
+      → Effect r own v m VIEWCHANGE (accept (joined v (m .sender)) silent)
+  moves : sameView (m .view) (v .target) ≡ true → reaches (changed v (m .sender)) (quorum r) ≡ true
+      → Effect r own v m VIEWCHANGE (accept (moved v) (sends (notice leaderKind own (v .target) (changed v (m .sender)))))
 
-pub effect : (r : Roster) (own : ℕ) (v : ViewRecord) (m : Frame) → Effect r own v m (accepted r own v m)
-unfolding accepted suspicion restart join
-effect r own v m = go (isSuspicion m) (sets r v m) (eqb (m .view .0) (v .target .0)) (reaches (changed v m) (quorum r)) refl refl refl refl
+pub effect : (k : Kind) (r : Roster) (own : ℕ) (v : ViewRecord) (m : Frame) → Effect r own v m k (accepted k r own v m)
+unfolding suspicion join
+effect SUSPICION r own v m = go (sets r v (m .sender)) refl
   where
-    go : (a b c d : Bool) → isSuspicion m ≡ a → sets r v m ≡ b → eqb (m .view .0) (v .target .0) ≡ c → reaches (changed v m) (quorum r) ≡ d
-        → Effect r own v m (accepted r own v m)
-    go true true c d p q x y = rw (p, q) (targets p q)
-    go true false c d p q x y = rw (p, q) (notes p q)
-    go false b false d p q x y = rw (p, x) (restarts p x)
-    go false b true true p q x y = rw (p, x, y) (moves p x y)
-    go false b true false p q x y = rw (p, x, y) (joins p x y)
+    go : (b : Bool) → sets r v (m .sender) ≡ b → Effect r own v m SUSPICION (accepted SUSPICION r own v m)
+    go true e = rw e (targets e)
+    go false e = rw e notes
+effect VIEWCHANGE r own v m = go (sameView (m .view) (v .target)) (reaches (changed v (m .sender)) (quorum r)) refl refl
+  where
+    go : (a b : Bool) → sameView (m .view) (v .target) ≡ a → reaches (changed v (m .sender)) (quorum r) ≡ b
+        → Effect r own v m VIEWCHANGE (accepted VIEWCHANGE r own v m)
+    go false b p q = rw p restarts
+    go true true p q = rw (p, q) (moves p q)
+    go true false p q = rw (p, q) (joins p q)
 
 -- ---- the frames that are sent
 
 -- what holds of the three frames that an accepted frame may send holds of each frame that a step sends
 module _ {r : Roster} {own room : ℕ} {v : ViewRecord} {line : List ℕ} (P : Frame → Type 0)
-    (on-target : Accepts r own room v line → isSuspicion (received line) ≡ true → sets r v (received line) ≡ true
-    → P (notice changeKind own (record { 0 = v .view .0 + 1 }) (suspected v (received line))))
+    (on-target : Accepts r own room v line → NoneHolds (frameRules SUSPICION r v (received line)) → sets r v (received line .sender) ≡ true
+    → P (notice changeKind own (nextView v) (suspected v (received line .sender))))
     (on-restart : Accepts r own room v line → P (notice changeKind own (received line .view) (received line .mask)))
-    (on-move : Accepts r own room v line → P (notice leaderKind own (v .target) (changed v (received line)))) where
-  effect-sends : Accepts r own room v line → {o : Reply ViewRecord} → Effect r own v (received line) o → {m : Frame} → o .sending ≡ sends m → P m
-  effect-sends a (notes p q) h = absurd (silent-sends h)
-  effect-sends a (targets p q) h = subst P (sends-same h) (on-target a p q)
-  effect-sends a (restarts p q) h = subst P (sends-same h) (on-restart a)
-  effect-sends a (joins p q x) h = absurd (silent-sends h)
-  effect-sends a (moves p q x) h = subst P (sends-same h) (on-move a)
+    (on-move : Accepts r own room v line → P (notice leaderKind own (v .target) (changed v (received line .sender)))) where
+  effect-sends : Accepts r own room v line → {k : Kind} → NoneHolds (frameRules k r v (received line)) → {o : Reply ViewRecord}
+      → Effect r own v (received line) k o → {m : Frame} → o .sending ≡ sends m → P m
+  effect-sends a n notes h = absurd (silent-sends h)
+  effect-sends a n (targets p) h = subst P (sends-same h) (on-target a n p)
+  effect-sends a n restarts h = subst P (sends-same h) (on-restart a)
+  effect-sends a n (joins p q) h = absurd (silent-sends h)
+  effect-sends a n (moves p q) h = subst P (sends-same h) (on-move a)
 
   sends-each : Stepped r own room v line → {m : Frame} → step r own room v line .sending ≡ sends m → P m
   sends-each (refuses e g o) h = absurd (silent-sends (rw o at h))
-  sends-each (accepting a) h = effect-sends a (effect r own v (received line)) (rw (a .outcome) at h)
+  sends-each (accepting a) h = effect-sends a (a .passes) (effect (kindIn line) r own v (received line)) (rw (a .outcome) at h)
 
 -- a VIEWCHANGE or LEADER from `own`
 pub record Notice (own : ℕ) (m : Frame) : Type 0 where
   pub kind : (m .kind ≡ changeKind) ⊎ (m .kind ≡ leaderKind)
   pub sender : m .sender ≡ own
 
-notice-change : (own : ℕ) (view : View) (mask : ℕ) → Notice own (notice changeKind own view mask)
-unfolding notice
-notice-change own view mask = record { kind = inl refl; sender = refl }
-
-notice-leader : (own : ℕ) (view : View) (mask : ℕ) → Notice own (notice leaderKind own view mask)
-unfolding notice
-notice-leader own view mask = record { kind = inr refl; sender = refl }
-
 -- each frame sent is one, and so of no kind that an acceptor sends
 pub sends-kind : (r : Roster) (own room : ℕ) (v : ViewRecord) (line : List ℕ) {m : Frame} → step r own room v line .sending ≡ sends m → Notice own m
 sends-kind r own room v line h =
-    sends-each (Notice own) (λ a p q. notice-change own _ _) (λ a. notice-change own _ _) (λ a. notice-leader own _ _) (stepped r own room v line) h
+    sends-each (Notice own) (λ a n p. record { kind = inl refl; sender = refl }) (λ a. record { kind = inl refl; sender = refl })
+    (λ a. record { kind = inr refl; sender = refl }) (stepped r own room v line) h
 
 -- numbers that fit their types, as those of each record and each own number do
 pub record Fits (own : ℕ) (v : ViewRecord) : Type 0 where
@@ -213,11 +216,11 @@ pub record Fits (own : ℕ) (v : ViewRecord) : Type 0 where
 -- a notice of such numbers has a line
 module _ (own : ℕ) (view : View) (mask : ℕ) (a : own < 256) (b : view .0 < 2 ^ 32) (c : mask < 2 ^ 16) where
   change-writable : writable (notice changeKind own view mask) ≡ true
-  unfolding notice writable proper isKind uses unusedZero zeroUnless allZero fits allFit
+  unfolding padded writable proper isKind uses unusedZero zeroUnless allZero fits allFit
   change-writable = rw (lt-ltb own 256 a, lt-ltb (view .0) (2 ^ 32) b, lt-ltb mask (2 ^ 16) c)
 
   leader-writable : writable (notice leaderKind own view mask) ≡ true
-  unfolding notice writable proper isKind uses unusedZero zeroUnless allZero fits allFit
+  unfolding padded writable proper isKind uses unusedZero zeroUnless allZero fits allFit
   leader-writable = rw (lt-ltb own 256 a, lt-ltb (view .0) (2 ^ 32) b, lt-ltb mask (2 ^ 16) c)
 
 -- so has the host's own suspicion, and its line is read as that SUSPICION
@@ -226,11 +229,10 @@ module _ (own : ℕ) (view : View) (a : own < 256) (b : view .0 < 2 ^ 32) where
   own-frame = notice suspicionKind own view 0
 
   own-writable : writable own-frame ≡ true
-  unfolding notice writable proper isKind uses unusedZero zeroUnless allZero fits allFit
+  unfolding padded writable proper isKind uses unusedZero zeroUnless allZero fits allFit
   own-writable = rw (lt-ltb own 256 a, lt-ltb (view .0) (2 ^ 32) b)
 
   own-taken : bit taken (own-frame .kind) ≡ true
-  unfolding notice
   own-taken = taken-is suspicionKind
 
   pub own-read : readingOf (ownSuspicion own view) taken ≡ record { found = true; frame = own-frame }
@@ -239,32 +241,32 @@ module _ (own : ℕ) (view : View) (a : own < 256) (b : view .0 < 2 ^ 32) where
       ∙ ap (λ (m : Frame). record { found = true; frame = m }) (frame-of-line own-frame own-writable)
 
 -- the next view fits where FULL lets pass
-next-fits : (r : Roster) (v : ViewRecord) (m : Frame) → isSuspicion m ≡ true → sets r v m ≡ true → full r v m ≡ false → v .view .0 + 1 < 2 ^ 32
-unfolding full
-next-fits r v m p q e = omega (arith, leb-false lastView (v .view .0) (rw (p, q) at e))
+next-fits : (r : Roster) (v : ViewRecord) (m : Frame) → NoneHolds (frameRules SUSPICION r v m) → sets r v (m .sender) ≡ true → nextView v .0 < 2 ^ 32
+unfolding testOf
+next-fits r v m n e = omega (arith, leb-false 4294967295 (v .view .0) (rw e at (no-test n Full)))
 
 module _ {own : ℕ} {v : ViewRecord} (f : Fits own v) where
-  suspected-fits : (m : Frame) → suspected v m < 2 ^ 16
+  suspected-fits : (site : ℕ) → suspected v site < 2 ^ 16
   unfolding suspected
-  suspected-fits m = with-fits (v .suspicions) (m .sender) (f .suspicions-fit)
+  suspected-fits site = with-fits (v .suspicions) site (f .suspicions-fit)
 
-  changed-fits : (m : Frame) → changed v m < 2 ^ 16
+  changed-fits : (site : ℕ) → changed v site < 2 ^ 16
   unfolding changed
-  changed-fits m = with-fits (v .changes) (m .sender) (f .changes-fit)
+  changed-fits site = with-fits (v .changes) site (f .changes-fit)
 
   -- each frame that is sent has a line
   pub sends-writable : (r : Roster) (room : ℕ) (line : List ℕ) {m : Frame} → step r own room v line .sending ≡ sends m → writable m ≡ true
   sends-writable r room line h =
       let x = received line in
       sends-each (λ m. writable m ≡ true)
-      (λ a p q. change-writable own _ _ (f .own-fits) (next-fits r v x p q (a .within)) (suspected-fits x))
+      (λ a n p. change-writable own _ _ (f .own-fits) (next-fits r v x n p) (suspected-fits (x .sender)))
       (λ a. change-writable own _ _ (f .own-fits) (read-view-fits line taken (a .framed)) (read-mask-fits line taken (a .framed)))
-      (λ a. leader-writable own _ _ (f .own-fits) (f .target-fits) (changed-fits x)) (stepped r own room v line) h
+      (λ a. leader-writable own _ _ (f .own-fits) (f .target-fits) (changed-fits (x .sender))) (stepped r own room v line) h
 
 -- a step that sends has passed CONFIG, so there is room, and what is sent is the frame's line
 config-passed : (r : Roster) (own room : ℕ) (v : ViewRecord) (line : List ℕ) {m : Frame} → step r own room v line .sending ≡ sends m → config r own room v ≡ false
 config-passed r own room v line h =
-    sends-each (λ m. config r own room v ≡ false) (λ a p q. a .configured) (λ a. a .configured) (λ a. a .configured) (stepped r own room v line) h
+    sends-each (λ m. config r own room v ≡ false) (λ a n p. a .configured) (λ a. a .configured) (λ a. a .configured) (stepped r own room v line) h
 
 pub sends-line : (r : Roster) (own : ℕ) (v : ViewRecord) (line out : List ℕ) → Fits own v → {m : Frame} → step r own (length out) v line .sending ≡ sends m → Sent m out
 sends-line r own v line out f h =
@@ -274,21 +276,24 @@ sends-line r own v line out f h =
 
 -- what holds of the record, and of each record that an accepted frame may leave, holds of the record that a step leaves
 module _ {r : Roster} {own room : ℕ} {v : ViewRecord} {line : List ℕ} (P : ViewRecord → Type 0) (still : P v)
-    (on-note : Accepts r own room v line → P (noted v (received line)))
-    (on-target : Accepts r own room v line → isSuspicion (received line) ≡ true → sets r v (received line) ≡ true → P (targeted own v (received line)))
-    (on-restart : Accepts r own room v line → P (restarted own v (received line)))
-    (on-join : Accepts r own room v line → P (joined v (received line)))
-    (on-move : Accepts r own room v line → isSuspicion (received line) ≡ false → eqb (received line .view .0) (v .target .0) ≡ true → P (moved v)) where
-  effect-leaves : Accepts r own room v line → {o : Reply ViewRecord} → Effect r own v (received line) o → P (o .state)
-  effect-leaves a (notes p q) = on-note a
-  effect-leaves a (targets p q) = on-target a p q
-  effect-leaves a (restarts p q) = on-restart a
-  effect-leaves a (joins p q x) = on-join a
-  effect-leaves a (moves p q x) = on-move a p q
+    (on-note : Accepts r own room v line → P (noted v (received line .sender)))
+    (on-target : Accepts r own room v line → NoneHolds (frameRules SUSPICION r v (received line)) → sets r v (received line .sender) ≡ true
+    → P (targeted own v (received line .sender)))
+    (on-restart : Accepts r own room v line → P (restarted own v (received line .sender) (received line .view)))
+    (on-join : Accepts r own room v line → P (joined v (received line .sender)))
+    (on-move : Accepts r own room v line → NoneHolds (frameRules VIEWCHANGE r v (received line)) → sameView (received line .view) (v .target) ≡ true
+    → P (moved v)) where
+  effect-leaves : Accepts r own room v line → {k : Kind} → NoneHolds (frameRules k r v (received line)) → {o : Reply ViewRecord}
+      → Effect r own v (received line) k o → P (o .state)
+  effect-leaves a n notes = on-note a
+  effect-leaves a n (targets p) = on-target a n p
+  effect-leaves a n restarts = on-restart a
+  effect-leaves a n (joins p q) = on-join a
+  effect-leaves a n (moves p q) = on-move a n p
 
   leaves : Stepped r own room v line → P (step r own room v line .state)
   leaves (refuses e g o) = rw o still
-  leaves (accepting a) = rw (a .outcome) (effect-leaves a (effect r own v (received line)))
+  leaves (accepting a) = rw (a .outcome) (effect-leaves a (a .passes) (effect (kindIn line) r own v (received line)))
 
 -- its numbers stay within their types, from a fresh one on
 pub fresh-fits : (own : ℕ) → own < 256 → Fits own fresh
@@ -297,14 +302,15 @@ fresh-fits own h = record { own-fits = h; view-fits = lit< tt; target-fits = lit
 pub keeps-fits : (r : Roster) (own room : ℕ) (v : ViewRecord) (line : List ℕ) → Fits own v → Fits own (step r own room v line .state)
 keeps-fits r own room v line f =
     let m = received line in
+    let site = m .sender in
     leaves (Fits own) f
-    (λ a. record { own-fits = f .own-fits; view-fits = f .view-fits; target-fits = f .target-fits; suspicions-fit = suspected-fits f m; changes-fit = f .changes-fit })
-    (λ a p q.
+    (λ a. record { own-fits = f .own-fits; view-fits = f .view-fits; target-fits = f .target-fits; suspicions-fit = suspected-fits f site; changes-fit = f .changes-fit })
+    (λ a n p.
     record {
       own-fits = f .own-fits;
       view-fits = f .view-fits;
-      target-fits = next-fits r v m p q (a .within);
-      suspicions-fit = suspected-fits f m;
+      target-fits = next-fits r v m n p;
+      suspicions-fit = suspected-fits f site;
       changes-fit = with-fits 0 own (lit< tt);
     })
     (λ a.
@@ -313,17 +319,21 @@ keeps-fits r own room v line f =
       view-fits = f .view-fits;
       target-fits = read-view-fits line taken (a .framed);
       suspicions-fit = f .suspicions-fit;
-      changes-fit = with-fits (withSite 0 (m .sender)) own (with-fits 0 (m .sender) (lit< tt));
+      changes-fit = with-fits (withSite 0 site) own (with-fits 0 site (lit< tt));
     })
-    (λ a. record { own-fits = f .own-fits; view-fits = f .view-fits; target-fits = f .target-fits; suspicions-fit = f .suspicions-fit; changes-fit = changed-fits f m })
-    (λ a p q. record { own-fits = f .own-fits; view-fits = f .target-fits; target-fits = lit< tt; suspicions-fit = lit< tt; changes-fit = lit< tt })
+    (λ a. record { own-fits = f .own-fits; view-fits = f .view-fits; target-fits = f .target-fits; suspicions-fit = f .suspicions-fit; changes-fit = changed-fits f site })
+    (λ a n p. record { own-fits = f .own-fits; view-fits = f .target-fits; target-fits = lit< tt; suspicions-fit = lit< tt; changes-fit = lit< tt })
     (stepped r own room v line)
 
 -- its masks stay within the sites, so a step never leaves a record that CONFIG refuses
+sender-below : (k : Kind) (r : Roster) (v : ViewRecord) (m : Frame) → NoneHolds (frameRules k r v m) → m .sender < r .n
+unfolding testOf
+sender-below SUSPICION r v m n = leb-false (r .n) (m .sender) (no-test n Sender)
+sender-below VIEWCHANGE r v m n = leb-false (r .n) (m .sender) (no-test n Sender)
+
 module _ {r : Roster} {own room : ℕ} {v : ViewRecord} {line : List ℕ} (a : Accepts r own room v line) where
-  sender-below : received line .sender < r .n
-  unfolding sender
-  sender-below = leb-false (r .n) (received line .sender) (a .from-site)
+  site-below : received line .sender < r .n
+  site-below = sender-below (kindIn line) r v (received line) (a .passes)
 
   own-below : own < r .n
   own-below = configured-is r own room v (a .configured) .seat .member
@@ -335,19 +345,19 @@ keeps-inside r own room v line i =
     let site = received line .sender in
     let none = fresh-inside n .changes in
     leaves (Inside n) i
-    (λ a. record { suspicions = with-inside n (v .suspicions) site (sender-below a) (i .suspicions); changes = i .changes })
-    (λ a p q.
+    (λ a. record { suspicions = with-inside n (v .suspicions) site (site-below a) (i .suspicions); changes = i .changes })
+    (λ a q p.
     record {
-      suspicions = with-inside n (v .suspicions) site (sender-below a) (i .suspicions);
+      suspicions = with-inside n (v .suspicions) site (site-below a) (i .suspicions);
       changes = with-inside n 0 own (own-below a) none;
     })
     (λ a.
     record {
       suspicions = i .suspicions;
-      changes = with-inside n (withSite 0 site) own (own-below a) (with-inside n 0 site (sender-below a) none);
+      changes = with-inside n (withSite 0 site) own (own-below a) (with-inside n 0 site (site-below a) none);
     })
-    (λ a. record { suspicions = i .suspicions; changes = with-inside n (v .changes) site (sender-below a) (i .changes) })
-    (λ a p q. record { suspicions = none; changes = none })
+    (λ a. record { suspicions = i .suspicions; changes = with-inside n (v .changes) site (site-below a) (i .changes) })
+    (λ a q p. record { suspicions = none; changes = none })
     (stepped r own room v line)
 
 pub keeps-valid : (r : Roster) (own room : ℕ) (v : ViewRecord) (line : List ℕ) → validRecord (r .n) v ≡ true → validRecord (r .n) (step r own room v line .state) ≡ true
@@ -361,20 +371,20 @@ keeps-config r own room v line e =
     rw (and-left (seated r own room) _ whole, keeps-valid r own room v line (and-right (seated r own room) _ whole))
 
 -- the view never falls
-target-above : (v : ViewRecord) (m : Frame) → isSuspicion m ≡ false → stale v m ≡ false → eqb (m .view .0) (v .target .0) ≡ true → v .view .0 < v .target .0
-unfolding stale
-target-above v m p e q =
+target-above : (r : Roster) (v : ViewRecord) (m : Frame) → NoneHolds (frameRules VIEWCHANGE r v m) → sameView (m .view) (v .target) ≡ true → v .view .0 < v .target .0
+unfolding testOf
+target-above r v m n q =
     omega (
       arith,
       eqb-true (m .view .0) (v .target .0) q,
-      leb-false (m .view .0) (v .view .0) (or-left (leb (m .view .0) (v .view .0)) _ (rw p at e)),
+      ltb-true (v .view .0) (m .view .0) (not-false (laterView (m .view) (v .view)) (or-left (not (laterView (m .view) (v .view))) _ (no-test n Stale))),
     )
 
 pub view-rises : (r : Roster) (own room : ℕ) (v : ViewRecord) (line : List ℕ) → v .view .0 ≤ step r own room v line .state .view .0
 view-rises r own room v line =
     let same = le-refl (v .view .0) in
-    leaves (λ w. v .view .0 ≤ w .view .0) same (λ a. same) (λ a p q. same) (λ a. same) (λ a. same)
-    (λ a p q. le-of-lt (target-above v (received line) p (a .timely) q))
+    leaves (λ w. v .view .0 ≤ w .view .0) same (λ a. same) (λ a n p. same) (λ a. same) (λ a. same)
+    (λ a n p. le-of-lt (target-above r v (received line) n p))
     (stepped r own room v line)
 
 -- ---- a target that is new has at most two sites, fewer than N-f: so "At N-f ones or more" is asked only where a site joins
@@ -391,14 +401,14 @@ none-ones : ones 0 ≡ 0
 unfolding ones onesIn
 none-ones = refl
 
-module _ (r : Roster) (ok : validRoster r ≡ true) (own : ℕ) (v : ViewRecord) (m : Frame) where
-  pub targeted-waits : reaches (targeted own v m .changes) (quorum r) ≡ false
+module _ (r : Roster) (ok : validRoster r ≡ true) (own : ℕ) (v : ViewRecord) (site : ℕ) where
+  pub targeted-waits : reaches (targeted own v site .changes) (quorum r) ≡ false
   unfolding reaches
   targeted-waits =
       lt-leb (quorum r) (ones (withSite 0 own)) (omega (arith, valid-figures r ok .quorum-min, with-one-more 0 own, none-ones))
 
-  pub restarted-waits : reaches (restarted own v m .changes) (quorum r) ≡ false
+  pub restarted-waits : (view : View) → reaches (restarted own v site view .changes) (quorum r) ≡ false
   unfolding reaches
-  restarted-waits =
-      lt-leb (quorum r) (ones (withSite (withSite 0 (m .sender)) own))
-      (omega (arith, valid-figures r ok .quorum-min, with-one-more (withSite 0 (m .sender)) own, with-one-more 0 (m .sender), none-ones))
+  restarted-waits view =
+      lt-leb (quorum r) (ones (withSite (withSite 0 site) own))
+      (omega (arith, valid-figures r ok .quorum-min, with-one-more (withSite 0 site) own, with-one-more 0 site, none-ones))

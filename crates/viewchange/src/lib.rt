@@ -1,10 +1,15 @@
 // View change: sites that suspect the leader of a view agree on the next one.
+ghost use mathlib.Core.Bool.{true, false};
 ghost use mathlib.Core.Path.{_≡_};
-ghost use Rattle.site.specs.Reply as reply;
+ghost use lib.Dec.{eqb};
+ghost use Rattle.refusal.specs.Rules.{answer};
+ghost use Rattle.site.specs.Reply.{Handed, sends};
 ghost use Rattle.viewchange.specs.ViewChange as spec;
-ghost use Rattle.viewchange.specs.Decision as decision;
+ghost use Rattle.viewchange.specs.Code.Parts as parts;
+use frame::Heading;
 use refusal::Answer;
 use refusal::Refusal;
+use refusal::given;
 use roster::Ballot;
 use roster::Roster;
 use roster::View;
@@ -17,16 +22,6 @@ pub struct Outcome {
     pub views: ViewRecord,
 }
 
-// What is decided before anything is written: the answer, the record, and whether a frame goes out, with its kind, view and mask.
-struct Decision {
-    answer: Answer,
-    views: ViewRecord,
-    sends: bool,
-    kind: u8,
-    view: View,
-    mask: u16,
-}
-
 // The kinds of frames taken and sent.
 const SUSPICION: u8 = 8;
 
@@ -37,137 +32,7 @@ const LEADER: u8 = 10;
 // SUSPICION and VIEWCHANGE, which are bits 8 and 9.
 const TAKEN: u16 = 768;
 
-// The last view.
-const LAST: u32 = 4294967295;
-
-// A refusal: the same record, and nothing is sent.
-fn refuse(v: ViewRecord, e: Refusal) -> Decision
-    ensures { λ d. ⌜ d ≡ decision.refusing v e ⌝ }
-{
-    Decision {
-        answer: Answer::Refused(e),
-        views: v,
-        sends: false,
-        kind: 0,
-        view: View(0),
-        mask: 0,
-    }
-}
-
-// An accepted frame that leaves this record, and nothing is sent.
-fn keep(v: ViewRecord) -> Decision
-    ensures { λ d. ⌜ d ≡ decision.keeping v ⌝ }
-{
-    Decision {
-        answer: Answer::Accepted,
-        views: v,
-        sends: false,
-        kind: 0,
-        view: View(0),
-        mask: 0,
-    }
-}
-
-// An accepted frame that leaves this record, and a frame goes out.
-fn tell(v: ViewRecord, kind: u8, view: View, mask: u16) -> Decision
-    ensures { λ d. ⌜ d ≡ decision.telling v kind view mask ⌝ }
-{
-    Decision {
-        answer: Answer::Accepted,
-        views: v,
-        sends: true,
-        kind,
-        view,
-        mask,
-    }
-}
-
-// The answer to a SUSPICION from a site: the view, and the target that f+1 suspicions set.
-fn suspect(r: Roster, own: u8, v: ViewRecord, site: u8, view: View) -> Decision
-    ensures { λ d. ⌜ decision.replied own d ≡ spec.heard r own v (spec.notice spec.suspicionKind site view 0) ⌝ }
-{
-    let present = v.view;
-    let current = view.0 == present.0;
-    if !current {
-        return refuse(v, Refusal::Stale);
-    }
-    let suspicions = roster::with_site(v.suspicions, site);
-    let target = v.target;
-    let noted = ViewRecord {
-        view: present,
-        suspicions,
-        target,
-        changes: v.changes,
-    };
-    let sets = roster::reaches(suspicions, r.weak_certificate()) & (target.0 == 0);
-    if !sets {
-        return keep(noted);
-    }
-    let last = LAST <= present.0;
-    if last {
-        return refuse(v, Refusal::Full);
-    }
-    let next = present.0 + 1;
-    let set = ViewRecord {
-        view: present,
-        suspicions,
-        target: View(next),
-        changes: roster::with_site(0, own),
-    };
-    tell(set, CHANGE, View(next), suspicions)
-}
-
-// The answer to a proven VIEWCHANGE from a site: a new target, or one more site for the target that is set.
-fn agree(r: Roster, own: u8, v: ViewRecord, site: u8, view: View, mask: u16) -> Decision
-    ensures { λ d. ⌜ decision.replied own d ≡ spec.accepted r own v (spec.notice spec.changeKind site view mask) ⌝ }
-{
-    let present = v.view;
-    let target = v.target;
-    let equal = view.0 == target.0;
-    if !equal {
-        let restarted = ViewRecord {
-            view: present,
-            suspicions: v.suspicions,
-            target: view,
-            changes: roster::with_site(roster::with_site(0, site), own),
-        };
-        return tell(restarted, CHANGE, view, mask);
-    }
-    let changes = roster::with_site(v.changes, site);
-    let enough = roster::reaches(changes, r.quorum());
-    if enough {
-        let changed = ViewRecord {
-            view: target,
-            suspicions: 0,
-            target: View(0),
-            changes: 0,
-        };
-        return tell(changed, LEADER, target, changes);
-    }
-    keep(ViewRecord {
-        view: present,
-        suspicions: v.suspicions,
-        target,
-        changes,
-    })
-}
-
-// The answer to a VIEWCHANGE from a site: its view and its proof.
-fn change(r: Roster, own: u8, v: ViewRecord, site: u8, view: View, mask: u16) -> Decision
-    ensures { λ d. ⌜ decision.replied own d ≡ spec.heard r own v (spec.notice spec.changeKind site view mask) ⌝ }
-{
-    let present = v.view;
-    let target = v.target;
-    let stale = (view.0 <= present.0) | (view.0 < target.0);
-    if stale {
-        return refuse(v, Refusal::Stale);
-    }
-    let unproven = roster::beyond(mask, r.n) | !roster::reaches(mask, r.weak_certificate());
-    if unproven {
-        return refuse(v, Refusal::Proof);
-    }
-    agree(r, own, v, site, view, mask)
-}
+// ---- the checks
 
 // Whether the roster, the own number, the room or the record is one that no step takes.
 fn config(r: Roster, own: u8, room: usize, v: ViewRecord) -> bool
@@ -176,92 +41,268 @@ fn config(r: Roster, own: u8, room: usize, v: ViewRecord) -> bool
     !(site::seated(r, own, room) & v.is_valid(r.n))
 }
 
-// What a line gives, where there is so much room.
-fn decide(r: Roster, own: u8, room: usize, v: ViewRecord, line: &[u8]) -> Decision
-    ensures { λ d. ⌜ decision.replied own d ≡ spec.step r own room v (now (line .entry)) ⌝ }
+// Whether the sender is none of the sites.
+fn unknown(r: Roster, site: u8) -> bool
+    ensures { λ b. ⌜ b ≡ spec.sender r site ⌝ }
 {
-    let unfit = config(r, own, room, v);
-    if unfit {
-        return refuse(v, Refusal::Config);
-    }
-    let m = frame::read_bare(line, TAKEN);
-    let found = m.found;
-    if !found {
-        return refuse(v, Refusal::Form);
-    }
-    let unknown = r.n <= m.sender;
-    if unknown {
-        return refuse(v, Refusal::Sender);
-    }
-    let view = m.view;
-    let suspicion = m.kind == SUSPICION;
-    if suspicion {
-        return suspect(r, own, v, m.sender, view);
-    }
-    change(r, own, v, m.sender, view, m.mask)
+    r.n <= site
 }
 
-// Sends the frame that a decision of `own` names, if it names one, and answers the length of its line.
-fn notify(own: u8, d: Decision, out: &mut [u8]) -> usize
-    ensures { λ k. ⌜ reply.Handed (decision.replied own d .sending) k (now (out .entry)) (now (out .exit)) ⌝ }
+// Whether a site's SUSPICION sets a target: f+1 suspicions, and no target yet.
+fn sets(r: Roster, v: ViewRecord, site: u8) -> bool
+    ensures { λ b. ⌜ b ≡ spec.sets r v site ⌝ }
 {
-    let sends = d.sends;
-    if !sends {
-        return 0;
+    let suspicions = roster::with_site(v.suspicions, site);
+    let target = v.target;
+    roster::reaches(suspicions, r.weak_certificate()) & target.is_zero()
+}
+
+// The answer to a SUSPICION of a view from a site.
+fn on_suspicion(r: Roster, v: ViewRecord, site: u8, view: View) -> Answer
+    ensures { λ a. ⌜ a ≡ answer (spec.suspicionRules r v site view) ⌝ }
+{
+    let present = v.view;
+    let nobody = unknown(r, site);
+    let stale = !view.equals(present);
+    let full = sets(r, v, site) & present.is_last();
+    given(
+        nobody,
+        Refusal::Sender,
+        given(
+            stale,
+            Refusal::Stale,
+            given(full, Refusal::Full, Answer::Accepted),
+        ),
+    )
+}
+
+// Whether a mask has a bit at N or above, or fewer than f+1 ones.
+fn unproven(r: Roster, mask: u16) -> bool
+    ensures { λ b. ⌜ b ≡ spec.proof r mask ⌝ }
+{
+    roster::beyond(mask, r.n) | !roster::reaches(mask, r.weak_certificate())
+}
+
+// The answer to a VIEWCHANGE to a view from a site, with a mask.
+fn on_change(r: Roster, v: ViewRecord, site: u8, view: View, mask: u16) -> Answer
+    ensures { λ a. ⌜ a ≡ answer (spec.changeRules r v site view mask) ⌝ }
+{
+    let present = v.view;
+    let target = v.target;
+    let nobody = unknown(r, site);
+    let stale = !view.above(present) | target.above(view);
+    let lacks = unproven(r, mask);
+    given(
+        nobody,
+        Refusal::Sender,
+        given(
+            stale,
+            Refusal::Stale,
+            given(lacks, Refusal::Proof, Answer::Accepted),
+        ),
+    )
+}
+
+// The answer to a line after CONFIG, by the heading that was read of it.
+fn check(r: Roster, v: ViewRecord, head: Heading) -> Answer
+    ensures { λ a. ⌜ a ≡ answer (parts.readRules r v (parts.read head)) ⌝ }
+{
+    let found = head.found;
+    if !found {
+        return Answer::Refused(Refusal::Form);
     }
-    let view = d.view;
+    let view = head.view;
+    let suspicion = head.kind == SUSPICION;
+    if suspicion {
+        return on_suspicion(r, v, head.sender, view);
+    }
+    on_change(r, v, head.sender, view, head.mask)
+}
+
+// ---- the effects
+
+// Sends a frame of this kind for a view, with a mask, and answers the length of its line.
+fn notify(kind: u8, own: u8, view: View, mask: u16, out: &mut [u8]) -> usize
+    ensures { λ k. ⌜ Handed (sends (spec.notice kind own view mask)) k (now (out .entry)) (now (out .exit)) ⌝ }
+{
     let none: [u64; 0] = [];
     site::send(
         true,
-        d.kind,
+        kind,
         own,
         view,
         Ballot(0),
         Ballot(0),
-        d.mask,
+        mask,
         &none,
         &none,
         out,
     )
 }
 
-// Hands over the frame that a decision of `own` names, and answers.
-fn answer(own: u8, d: Decision, out: &mut [u8]) -> Outcome
-    ensures { λ o. ⌜ (o ≡ spec.outcome (decision.replied own d) (now (out .entry))) × (now (out .exit) ≡ reply.buffer (decision.replied own d .sending) (now (out .entry))) ⌝ }
+// Adds a site's suspicion. If that sets a target, it is the next view, and a VIEWCHANGE to it goes out.
+fn suspect(r: Roster, own: u8, v: ViewRecord, site: u8, out: &mut [u8]) -> Outcome
+    requires { ⌜ spec.full r v site ≡ false ⌝ }
+    ensures { λ o. ⌜ parts.Done (spec.suspicion r own v site) (now (out .entry)) o (now (out .exit)) ⌝ }
 {
-    let sent = notify(own, d, out);
-    let given = d.answer;
-    let views = d.views;
-    Outcome {
-        answer: given,
-        sent,
-        views,
+    let view = v.view;
+    let suspicions = roster::with_site(v.suspicions, site);
+    let targets = sets(r, v, site);
+    if !targets {
+        let target = v.target;
+        let noted = ViewRecord {
+            view,
+            suspicions,
+            target,
+            changes: v.changes,
+        };
+        return Outcome {
+            answer: Answer::Accepted,
+            sent: 0,
+            views: noted,
+        };
     }
+    let next = View(view.0 + 1);
+    let sent = notify(CHANGE, own, next, suspicions, out);
+    let targeted = ViewRecord {
+        view,
+        suspicions,
+        target: next,
+        changes: roster::with_site(0, own),
+    };
+    Outcome {
+        answer: Answer::Accepted,
+        sent,
+        views: targeted,
+    }
+}
+
+// Takes a new target: its mask starts with the sender and the own site, and a VIEWCHANGE with the frame's mask goes out.
+fn restart(own: u8, v: ViewRecord, site: u8, view: View, mask: u16, out: &mut [u8]) -> Outcome
+    ensures { λ o. ⌜ parts.Done (spec.restart own v site view mask) (now (out .entry)) o (now (out .exit)) ⌝ }
+{
+    let sent = notify(CHANGE, own, view, mask, out);
+    let present = v.view;
+    let restarted = ViewRecord {
+        view: present,
+        suspicions: v.suspicions,
+        target: view,
+        changes: roster::with_site(roster::with_site(0, site), own),
+    };
+    Outcome {
+        answer: Answer::Accepted,
+        sent,
+        views: restarted,
+    }
+}
+
+// Adds a site to the target mask. At N-f sites the view becomes the target, and LEADER goes out with the mask.
+fn join(r: Roster, own: u8, v: ViewRecord, site: u8, out: &mut [u8]) -> Outcome
+    ensures { λ o. ⌜ parts.Done (spec.join r own v site) (now (out .entry)) o (now (out .exit)) ⌝ }
+{
+    let target = v.target;
+    let changes = roster::with_site(v.changes, site);
+    let enough = roster::reaches(changes, r.quorum());
+    if !enough {
+        let view = v.view;
+        let joined = ViewRecord {
+            view,
+            suspicions: v.suspicions,
+            target,
+            changes,
+        };
+        return Outcome {
+            answer: Answer::Accepted,
+            sent: 0,
+            views: joined,
+        };
+    }
+    let sent = notify(LEADER, own, target, changes, out);
+    let moved = ViewRecord {
+        view: target,
+        suspicions: 0,
+        target: View(0),
+        changes: 0,
+    };
+    Outcome {
+        answer: Answer::Accepted,
+        sent,
+        views: moved,
+    }
+}
+
+// Does what an accepted frame asks for, by its kind.
+fn perform(r: Roster, own: u8, v: ViewRecord, head: Heading, out: &mut [u8]) -> Outcome
+    requires { ⌜ (eqb (head .kind) spec.suspicionKind ≡ true → spec.full r v (head .sender) ≡ false) ⌝ }
+    ensures { λ o. ⌜ parts.Done (spec.accepted (spec.kindOf (head .kind)) r own v (parts.read head .frame)) (now (out .entry)) o (now (out .exit)) ⌝ }
+{
+    let suspicion = head.kind == SUSPICION;
+    if suspicion {
+        return suspect(r, own, v, head.sender, out);
+    }
+    let view = head.view;
+    let equal = view.equals(v.target);
+    if equal {
+        return join(r, own, v, head.sender, out);
+    }
+    restart(own, v, head.sender, view, head.mask, out)
+}
+
+// ---- the steps
+
+// What a refused call gives: the same record, and nothing is sent.
+fn refuse(v: ViewRecord, answer: Answer) -> Outcome
+    ensures { λ o. ⌜ o ≡ record { answer = answer; sent = 0; views = v } ⌝ }
+{
+    Outcome {
+        answer,
+        sent: 0,
+        views: v,
+    }
+}
+
+// What a call gives after CONFIG: the answer to the heading that was read, and the effect if it is no refusal.
+fn respond(r: Roster, own: u8, v: ViewRecord, head: Heading, out: &mut [u8]) -> Outcome
+    ensures { λ o. ⌜ parts.Done (parts.replied r own v (parts.read head)) (now (out .entry)) o (now (out .exit)) ⌝ }
+{
+    let answer = check(r, v, head);
+    let refused = answer.refuses();
+    if refused {
+        return refuse(v, answer);
+    }
+    perform(r, own, v, head, out)
 }
 
 // One step: the answer to a line, how much of the buffer is to be sent, and the record after it. Any line is answered, in any state.
 pub fn step(r: Roster, own: u8, v: ViewRecord, line: &[u8], out: &mut [u8]) -> Outcome
     ensures { λ o. ⌜ (o ≡ spec.returned r own v (now (line .entry)) (now (out .entry))) × (now (out .exit) ≡ spec.output r own v (now (line .entry)) (now (out .entry))) ⌝ }
 {
-    let d = decide(r, own, out.len(), v, line);
-    answer(own, d, out)
-}
-
-// What the host's own suspicion of a view gives, where there is so much room.
-fn decide_own(r: Roster, own: u8, room: usize, v: ViewRecord, view: View) -> Decision
-    ensures { λ d. ⌜ decision.replied own d ≡ spec.step r own room v (spec.ownSuspicion own view) ⌝ }
-{
-    let barred = config(r, own, room, v);
-    if barred {
-        return refuse(v, Refusal::Config);
+    let unfit = config(r, own, out.len(), v);
+    if unfit {
+        return refuse(v, Answer::Refused(Refusal::Config));
     }
-    suspect(r, own, v, own, view)
+    let head = frame::read_bare(line, TAKEN);
+    respond(r, own, v, head, out)
 }
 
 // The host's own suspicion of a view: it enters as a SUSPICION from itself.
 pub fn suspicion(r: Roster, own: u8, v: ViewRecord, view: View, out: &mut [u8]) -> Outcome
     ensures { λ o. ⌜ (o ≡ spec.returned r own v (spec.ownSuspicion own view) (now (out .entry))) × (now (out .exit) ≡ spec.output r own v (spec.ownSuspicion own view) (now (out .entry))) ⌝ }
 {
-    let d = decide_own(r, own, out.len(), v, view);
-    answer(own, d, out)
+    let barred = config(r, own, out.len(), v);
+    if barred {
+        return refuse(v, Answer::Refused(Refusal::Config));
+    }
+    let head = Heading {
+        found: true,
+        kind: SUSPICION,
+        sender: own,
+        view,
+        ballot: Ballot(0),
+        proven: Ballot(0),
+        mask: 0,
+        n: 0,
+        m: 0,
+    };
+    respond(r, own, v, head, out)
 }

@@ -1,7 +1,7 @@
 -- `viewchange::config` meets its contract: the site and the record decide it.
 -- Assumes nothing.
-use borrow.Author.Needs.{needs}
 use Rattle.viewchange.specs.ViewChange.{config}
+use borrow.Author.Needs.{needs}
 use Rattle.viewchange.proofs.config.Statement.{statement}
 use Rattle.viewchange.proofs.config.Tie as tie
 
@@ -13,7 +13,7 @@ is-valid-requires c κs = search needs
 
 returns : tie.Need-returns
 unfolding config
-returns c = rw (c .before .seated .ensures, c .is-valid .ensures)
+returns c = cc
 
 pub config-spec : {M : Type 1} → statement M
 config-spec = tie.close (tie.spec seated-requires is-valid-requires returns)

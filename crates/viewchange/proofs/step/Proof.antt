@@ -1,23 +1,50 @@
--- `viewchange::step` meets its contract: it decides on the line, and hands over the frame that the decision names.
+-- `viewchange::step` meets its contract: CONFIG comes first, then what was read of the line. Lines of its kinds have no commands, so the bare reading is
+-- the reading.
 -- Assumes nothing.
+use mathlib.Core.Path.{_∙_}
+use Rattle.frame.specs.BareLaws.{bare-reading}
+use Rattle.viewchange.specs.ViewChange.{taken}
+use Rattle.viewchange.specs.ViewChangeLaws.{bare-taken}
+use Rattle.viewchange.specs.Code.Parts.{read}
+use Rattle.viewchange.proofs.Calls.{step-config, step-read}
 use borrow.Author.Needs.{needs}
-use Rattle.viewchange.proofs.Tests.{answered}
 use Rattle.viewchange.proofs.step.Statement.{statement}
 use Rattle.viewchange.proofs.step.Tie as tie
 
-decide-requires : tie.Need-decide-requires
-decide-requires c κs = search needs
+config-requires : tie.Need-config-requires
+config-requires c κs = search needs
 
-answer-requires : tie.Need-answer-requires
-answer-requires c κs = search needs
+refuse-requires : tie.Need-refuse-requires
+refuse-requires c κs = search needs
+
+returns : tie.Need-returns
+returns c =
+    let given = c .before .before .before .before .before .args in
+    rw (c .refuse .ensures) (step-config (given .r) (given .own) (given .v) (given .line .now) (given .out .now) (c .before .before .config .result) (c .before .before .config .ensures) (c .before .if1 .taken))
+
+read-bare-requires : tie.Need-read-bare-requires
+read-bare-requires c κs = search needs
+
+respond-requires : tie.Need-respond-requires
+respond-requires c κs = search needs
 
 same-length : tie.Need-same-length
 same-length c = search needs
 
-returns : tie.Need-returns
-returns c =
-    let decided = c .before .before .before .before .decide in
-    answered (c .before .before .before .before .before .before .before .args .own) _ (decided .result) _ (decided .ensures) _ _ (c .before .before .answer .ensures)
+returns-2 : tie.Need-returns-2
+returns-2 c =
+    let given = c .before .before .before .before .before .before .before .before .before .args in
+    step-read (given .r) (given .own) (given .v) (given .line .now) (given .out .now) (c .before .before .before .before .before .before .config .result) (c .before .before .before .before .before .before .config .ensures) (c .before .before .before .before .before .if1 .left)
+    (read (c .before .before .before .before .read-bare .result)) (c .before .before .before .before .read-bare .ensures ∙ bare-reading (given .line .now) taken bare-taken) _ _ (c .before .before .respond .ensures)
 
 pub step-spec : {M : Type 1} → statement M
-step-spec = tie.close (tie.spec decide-requires answer-requires same-length returns)
+step-spec =
+    tie.close
+    (tie.spec
+    config-requires
+    refuse-requires
+    returns
+    read-bare-requires
+    respond-requires
+    same-length
+    returns-2)
