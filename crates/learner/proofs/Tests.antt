@@ -1,106 +1,186 @@
 -- What the code's tests say in the words of the definitions.
-use mathlib.Core.Path.{_≡_, refl, sym, ap, _∙_}
+use mathlib.Core.Path.{_≡_, refl, sym, ap, _∙_, subst}
+use mathlib.Core.Logic.{⊎-elim, _≢_}
 use mathlib.Core.Bool.{Bool, true, false, cond}
-use mathlib.Core.List.{List}
+use mathlib.Core.List.{List, [], _∷_, _++_, append-nil}
 use Prim.Native.Nat.{ℕ, _≤_}
 use native.Mathlib.Omega.{arith}
+use native.Mathlib.Decide.{ℕ-discrete}
+use borrow.Author.Tests.{le-leb, lt-leb, leb-false, not-false, eq-eqb, ne-eqb}
 use lib.Dec.{leb}
-use lib.ListN.{length}
-use Rattle.history.specs.declared.History.{History}
-use Rattle.history.specs.Words.{historyOf}
-use Rattle.history.specs.History.{extends}
-use Rattle.history.specs.Words.{limit, extendsWithin}
-use Rattle.history.specs.WordsLaws.{extends-within}
+use lib.ListN.{length, length-take, length-append}
+use Rattle.basics.specs.Bools.{true-or-false}
 use Rattle.roster.specs.declared.Roster.{Roster}
 use Rattle.roster.specs.Roster.{quorum}
-use Rattle.table.specs.declared.Table.{Table}
-use Rattle.table.specs.Table.{row, storedAt, storedIn}
-use Rattle.table.specs.TableLaws.{Sized, length-row, stored-in}
+use Rattle.roster.specs.RosterLaws.{valid-figures}
+use Rattle.roster.specs.Sites.{countTo}
+use Rattle.roster.specs.SitesLaws.{count-cong, lt-or-le}
+use Rattle.history.specs.History.{Equivalent, Extends, extends}
+use Rattle.history.specs.TakesLaws.{equivalent-sym, equivalent-length}
+use Rattle.history.specs.ExtensionLaws.{extends-refl, extends-along, extends-length, extends-sound, extends-complete, extends-refuted}
+use Rattle.history.specs.Words.{extendsWithin}
+use Rattle.history.specs.WordsLaws.{extends-within}
 use Rattle.merge.specs.declared.Merged.{Merged}
-use Rattle.merge.specs.Merged.{merged}
+use Rattle.table.specs.declared.Table.{Table}
+use Rattle.table.specs.Table.{rowOf, storedAt, storedIn}
+use Rattle.table.specs.TableLaws.{Sized, row-stored-other, stored-in}
 use Rattle.refusal.specs.declared.Refusal.{Refusal}
-use Rattle.refusal.specs.declared.Refusal.the-variants.{Split, Full, Contradiction}
+use Rattle.refusal.specs.declared.Refusal.the-variants.{Config, Sender, Contradiction}
+use Rattle.refusal.specs.declared.Answer.{Answer}
 use Rattle.refusal.specs.declared.Answer.the-variants.{Accepted}
-use Rattle.refusal.specs.Rules.{judged}
+use Rattle.refusal.specs.Refusal.{isRefused}
+use Rattle.refusal.specs.Rules.{Rule, _gives_, judged, answer}
+use Rattle.refusal.specs.AnswerLaws.{stops, judged-refused, judged-accepted, answer-none}
+use Rattle.refusal.specs.JudgedLaws.{NoneHolds, passed, pass, testOf, no-test}
+use Rattle.frame.specs.declared.Heading.{Heading}
+use Rattle.frame.specs.declared.Reading.{Reading}
+use Rattle.frame.specs.Format.{readingOf, readingWith, frameWith, malformed}
+use Rattle.frame.specs.FormatLaws.{read-n}
 use Rattle.learner.specs.declared.State.{State}
-use Rattle.learner.specs.declared.Verdict.{Verdict}
-use Rattle.learner.specs.Learner.{contradicts}
-use Rattle.learner.specs.Verdict.{refusing, ruled, backs, standing, enough, none, against, merging, favour, onMerge, onEntry, settled}
+use Rattle.learner.specs.declared.Outcome.{Outcome}
+use Rattle.learner.specs.Learner.{
+  taken,
+  vote,
+  arrived,
+  withVote,
+  supporters,
+  claimed,
+  claims,
+  merging,
+  mergeOf,
+  accepted,
+  refuse,
+  contradicts,
+  mergeRules,
+  rules,
+  step,
+}
+use Rattle.learner.specs.StepLaws.{config-sound, vote-enters, vote-stored, vote-stays}
+use Rattle.learner.specs.Code.Vote.{checks, Passed, concluded, stands}
 
--- what the code's test of a row's support says
-pub backs-is : (words counts h : List ℕ) (i : ℕ) (entry : List ℕ) (b : Bool) → entry ≡ row words counts i → b ≡ extendsWithin 64 entry h → backs words counts h i ≡ b
-backs-is words counts h i entry b e f =
-    sym (extends-within 64 (row words counts i) h (omega (arith, length-row words counts i)))
-    ∙ ap (λ (l : List ℕ). extendsWithin 64 l h) (sym e) ∙ sym f
+-- the code's test of extension, of a list of at most 64 commands
+pub extends-is : (h g : List ℕ) (b : Bool) → length h ≤ 64 → b ≡ extendsWithin 64 h g → extends h g ≡ b
+extends-is h g b p e = sym (extends-within 64 h g p) ∙ sym e
 
--- and its test of a history against an entry
-pub newer-is : (h entry g : List ℕ) (b : Bool) → length h ≤ 64 → entry ≡ g → b ≡ extendsWithin 64 h entry → extends h g ≡ b
-newer-is h entry g b p e f = sym (extends-within 64 h g p) ∙ ap (extendsWithin 64 h) (sym e) ∙ sym f
+-- a history that extends one that is not shorter is extended by it
+nothing : (l : List ℕ) → length l ≡ 0 → l ≡ []
+nothing [] z = refl
+nothing (c ∷ l) z = absurd (omega (arith, z))
 
--- a verdict that refuses, whatever the words
-pub refused : {v : Verdict} {e : Refusal} (next : List ℕ) → v ≡ refusing e → ruled v next ≡ against e
-refused next p = ap (λ (x : Verdict). ruled x next) p
+no-longer : {g h : List ℕ} → Extends h g → length h ≤ length g → Extends g h
+no-longer {g} {h} p l = extends-along (equivalent-sym whole) (extends-refl h)
+  where
+    whole : Equivalent g h
+    whole =
+        let none = nothing (p .x) (omega (arith, equivalent-length (p .equivalent), length-append g (p .x))) in
+        subst (λ (y : List ℕ). Equivalent y h) (ap (λ (y : List ℕ). g ++ y) none ∙ append-nil g) (p .equivalent)
 
--- ---- a vote that is merged: m is what merging answered
+-- ---- a vote for h that passed the checks up to its merge
 
-module _ (l h : List ℕ) (stores : Bool) (k : ℕ) (m : Merged) (e : m ≡ merged limit l h) where
-  pub merging-split : m .split ≡ true → against Split ≡ merging l h stores k
-  unfolding judged
-  merging-split p = rw (← e, p)
+module _ {t : Table} (z : Sized t) (site : ℕ) (h : List ℕ) (p : Passed (t .words) (t .counts) site h) where
+  -- it extends the sender's entry exactly if it is not shorter
+  pub newer-is : (b : Bool) → leb (length (rowOf t site)) (length h) ≡ b → extends h (rowOf t site) ≡ b
+  unfolding contradicts
+  newer-is b e = ⊎-elim longer shorter (true-or-false (extends h (rowOf t site)))
+    where
+      longer : extends h (rowOf t site) ≡ true → extends h (rowOf t site) ≡ b
+      longer f = f ∙ sym (le-leb (length (rowOf t site)) (length h) (extends-length (extends-sound h (rowOf t site) f))) ∙ e
 
-  pub merging-full : m .split ≡ false → m .full ≡ true → against Full ≡ merging l h stores k
-  unfolding judged
-  merging-full p q = rw (← e, p, q)
+      shorter : extends h (rowOf t site) ≡ false → extends h (rowOf t site) ≡ b
+      shorter f =
+          let older : extends (rowOf t site) h ≡ true = not-false (extends (rowOf t site) h) (rw f at (p .agrees)) in
+          ⊎-elim (λ l. f ∙ sym (lt-leb (length (rowOf t site)) (length h) l) ∙ e)
+          (λ l. absurd (extends-refuted h (rowOf t site) f (no-longer (extends-sound (rowOf t site) h older) l)))
+          (lt-or-le (length h) (length (rowOf t site)))
 
-  pub merging-found : m .split ≡ false → m .full ≡ false
-      → record { answer = Accepted; supporters = k; stores = stores; learns = true; learned = m .history } ≡ merging l h stores k
-  unfolding judged
-  merging-found p q = rw (← e, p, q)
+  -- once the vote is in, the sender's entry extends it
+  sender-stands : extends (rowOf (withVote t site h) site) h ≡ true
+  sender-stands = extends-complete (vote-enters z site h (p .inside) (p .short) (p .agrees))
 
--- ---- a vote that contradicts nothing, with k supporters by the code's count, and q the quorum
+  -- the other entries stay
+  other-row : (i : ℕ) → i ≢ site → rowOf (withVote t site h) i ≡ rowOf t i
+  other-row i n =
+      ⊎-elim (λ e. rw (vote-stored t site h e) (row-stored-other t site h i n)) (λ e. rw (vote-stays t site h e)) (true-or-false (extends h (rowOf t site)))
 
-module _ (r : Roster) (words counts l : List ℕ) (site : ℕ) (h : List ℕ) (stores : Bool) (k q : ℕ) (e : k ≡ standing r words counts site h) (f : q ≡ quorum r) where
-  enough-is : (b : Bool) → leb q k ≡ b → enough r words counts site h ≡ b
-  unfolding enough
-  enough-is b p = rw (← e, ← f) p
+  stands-is : (i : ℕ) → stands (t .words) (t .counts) site h i ≡ extends (rowOf (withVote t site h) i) h
+  stands-is i =
+      elim (ℕ-discrete i site) [
+        | yes e ↦ rw e (rw (eq-eqb site site refl, sender-stands))
+        | no n ↦ rw (ne-eqb i site n, other-row i n)
+      ]
 
-  pub merge-enough : leb q k ≡ true → merging l h stores k ≡ onMerge r words counts l site h stores
-  unfolding favour judged
-  merge-enough p = rw (enough-is true p, e)
+  -- the code's count is that of the supporters
+  pub standing-is : (r : Roster) → countTo (r .n) (stands (t .words) (t .counts) site h) ≡ supporters r (withVote t site h) h
+  unfolding supporters
+  standing-is r = count-cong (r .n) _ _ (λ i l. stands-is i)
 
-  pub merge-few : leb q k ≡ false
-      → record { answer = Accepted; supporters = k; stores = stores; learns = false; learned = none } ≡ onMerge r words counts l site h stores
-  unfolding favour judged
-  merge-few p = rw (enough-is false p, e)
+-- its outcome: m is the merge, x what its checks answer, and b tells whether that refuses
+module _ (r : Roster) (s : State) (z : Sized (s .entries)) (site : ℕ) (h : List ℕ) (p : Passed (s .entries .words) (s .entries .counts) site h) (k : ℕ)
+    (e : k ≡ countTo (r .n) (stands (s .entries .words) (s .entries .counts) site h)) (m : Merged)
+    (f : m ≡ merging (s .learned) (cond (leb (quorum r) k) (h ∷ []) [])) (x : Answer) (a : x ≡ answer (mergeRules m)) (b : Bool) (g : b ≡ isRefused x) where
+  supported : k ≡ supporters r (withVote (s .entries) site h) h
+  supported = e ∙ standing-is z site h p r
 
--- ---- a vote against the sender's entry
+  merge-is : m ≡ mergeOf r (withVote (s .entries) site h) s h
+  unfolding claims claimed
+  merge-is = f ∙ ap (λ (i : ℕ). merging (s .learned) (cond (leb (quorum r) i) (h ∷ []) [])) supported
 
-module _ (r : Roster) (words counts l : List ℕ) (site : ℕ) (h : List ℕ) where
-  pub entry-newer : extends h (row words counts site) ≡ true → onMerge r words counts l site h true ≡ onEntry r words counts l site h
-  unfolding contradicts judged
-  entry-newer p = rw p
+  answer-is : x ≡ answer (mergeRules (mergeOf r (withVote (s .entries) site h) s h))
+  answer-is = subst (λ (m : Merged). x ≡ answer (mergeRules m)) merge-is a
 
-  pub entry-older : extends h (row words counts site) ≡ false → extends (row words counts site) h ≡ true
-      → onMerge r words counts l site h false ≡ onEntry r words counts l site h
-  unfolding contradicts judged
-  entry-older p q = rw (p, q)
+  pub concludes-refused : b ≡ true → record { answer = x; supporters = 0; state = s } ≡ concluded r s site h
+  concludes-refused c =
+      judged-refused (refuse s) (accepted r s site h) (mergeRules (mergeOf r (withVote (s .entries) site h) s h)) x answer-is (sym g ∙ c)
+      (λ (y : Answer) (o : Outcome). record { answer = y; supporters = 0; state = s } ≡ o) (λ (q : Refusal). refl)
 
-  pub entry-neither : extends h (row words counts site) ≡ false → extends (row words counts site) h ≡ false
-      → against Contradiction ≡ onEntry r words counts l site h
-  unfolding contradicts judged
-  entry-neither p q = rw (p, q)
+  pub concludes-accepted : b ≡ false → (t : Table) → t ≡ withVote (s .entries) site h
+      → record { answer = Accepted; supporters = k; state = record { entries = t; learned = m .history } } ≡ concluded r s site h
+  concludes-accepted c t d =
+      rw (d, merge-is, supported)
+      (sym (judged-accepted (refuse s) (accepted r s site h) (mergeRules (mergeOf r (withVote (s .entries) site h) s h)) x answer-is (sym g ∙ c)))
 
 -- what the code stored, in a table of the right sizes
 pub stored-is : {t u : Table} {i j : ℕ} {g h : List ℕ} → Sized u → t ≡ storedIn (u .words) (u .counts) i g → i ≡ j → g ≡ h → t ≡ storedAt u j h
 stored-is {t} {u} {i} {j} {g} {h} z e f k =
     e ∙ stored-in (u .words) (u .counts) i g (omega arith) (omega arith) ∙ ap (λ (x : ℕ). storedAt u x g) f ∙ ap (storedAt u j) k
 
--- the outcome of a verdict v, t and l being the entries and what is learned after it
-pub settled-parts : (s : State) (site : ℕ) (h : List ℕ) (v : Verdict) (next : List ℕ) (t : Table) (l : History)
-    → t ≡ cond (v .stores) (storedAt (s .entries) site h) (s .entries) → l ≡ cond (v .learns) (historyOf (v .count) next) (s .learned)
-    → record { answer = v .answer; supporters = v .supporters; state = record { entries = t; learned = l } } ≡ settled s site h (ruled v next)
-settled-parts s site h v next t l e f = rw (e, f) (ap (λ (x : History). record { answer = v .answer; supporters = v .supporters; state = record { entries = cond (v .stores) (storedAt (s .entries) site h) (s .entries); learned = x } }) (go (v .learns)))
-  where
-    go : (b : Bool) → cond b (historyOf (v .count) next) (s .learned) ≡ cond b (cond b (historyOf (v .count) next) none) (s .learned)
-    go true = refl
-    go false = refl
+-- ---- a line: head and w are what was read of it, x is the answer up to the merge, and b tells whether that refuses
+
+-- where the first rules refuse nothing, those after them judge
+judged-on : {A : Type 0} (refuse : Refusal → A) (accepted : A) (a b : List Rule) → NoneHolds a → judged refuse accepted (a ++ b) ≡ judged refuse accepted b
+unfolding judged
+judged-on refuse accepted [] b passed = refl
+judged-on refuse accepted (test gives r ∷ a) b (pass f n) = rw f (judged-on refuse accepted a b n)
+
+module _ (r : Roster) (s : State) (z : Sized (s .entries)) (line : List ℕ) (head : Heading) (w : List ℕ) (x : Answer) (b : Bool)
+    (f : readingWith head w ≡ readingOf line taken) (a : x ≡ answer (checks r s (readingWith head w))) (g : b ≡ isRefused x) where
+  merge-checks : List Rule
+  merge-checks = mergeRules (mergeOf r (withVote (s .entries) (vote line .sender) (arrived (vote line))) s (arrived (vote line)))
+
+  pub steps-refused : b ≡ true → record { answer = x; supporters = 0; state = s } ≡ step r s line
+  unfolding step malformed merge-checks
+  steps-refused c =
+      judged-refused (refuse s) (accepted r s (vote line .sender) (arrived (vote line))) (rules r s line) x
+      (stops (checks r s (readingOf line taken)) merge-checks (subst (λ (d : Reading). x ≡ answer (checks r s d)) f a) g c) (sym g ∙ c)
+      (λ (y : Answer) (o : Outcome). record { answer = y; supporters = 0; state = s } ≡ o) (λ (q : Refusal). refl)
+
+  none : b ≡ false → NoneHolds (checks r s (readingWith head w))
+  none c = answer-none (checks r s (readingWith head w)) x a (sym g ∙ c)
+
+  pub passes : b ≡ false → Passed (s .entries .words) (s .entries .counts) (head .sender) (arrived (frameWith head w))
+  unfolding testOf
+  passes c =
+      let n = none c in
+      let few = valid-figures r (config-sound z (no-test n Config) .roster) .max-sites in
+      record {
+        inside = omega (arith, leb-false (r .n) (head .sender) (no-test n Sender), few);
+        short = rw length-take (omega (arith, ap (λ (o : Reading). o .frame .n) f, read-n line taken));
+        agrees = no-test n Contradiction;
+      }
+
+  pub steps-concluded : b ≡ false → concluded r s (head .sender) (arrived (frameWith head w)) ≡ step r s line
+  unfolding step malformed merge-checks
+  steps-concluded c =
+      subst (λ (d : Reading). concluded r s (d .frame .sender) (arrived (d .frame)) ≡ step r s line) (sym f)
+      (sym (judged-on (refuse s) (accepted r s (vote line .sender) (arrived (vote line))) (checks r s (readingOf line taken)) merge-checks
+      (subst (λ (d : Reading). NoneHolds (checks r s d)) f (none c))))

@@ -1,23 +1,25 @@
 -- One step of the learner: what holds of an accepted vote, and what the state keeps.
-use mathlib.Core.Path.{_≡_, refl, sym, ap, _∙_}
+use mathlib.Core.Path.{_≡_, refl, sym, ap, _∙_, subst}
 use mathlib.Core.Logic.{⊎-elim}
-use mathlib.Core.Bool.{true, false, _&&_, Bool·beq, true≢false}
+use mathlib.Core.Bool.{true, false, not, _&&_, _||_, Bool·beq, true≢false}
 use mathlib.Core.List.{List}
 use Prim.Native.Nat.{ℕ, _≤_, _<_}
 use native.Mathlib.Omega.{arith}
 use native.Mathlib.Decide.{ℕ-discrete}
 use borrow.Author.Tests.{le-leb, leb-false, not-false, ne-eqb}
-use lib.Dec.{eqb, lit<}
+use lib.Dec.{leb, eqb, lit<}
 use lib.ListN.{length, length-take}
 use Rattle.basics.specs.Bools.{true-or-false, and-left, and-right, beq-true}
 use Rattle.roster.specs.declared.Roster.{Roster}
 use Rattle.roster.specs.Roster.{validRoster, quorum}
 use Rattle.roster.specs.RosterLaws.{valid-figures}
-use Rattle.roster.specs.Mask.{bit}
+use Rattle.roster.specs.Counts.{zeroBallot}
+use Rattle.roster.specs.Mask.{bit, reaches, beyond}
 use Rattle.roster.specs.MaskLaws.{bit-out}
 use Rattle.roster.specs.Sites.{countTo, allTo}
 use Rattle.roster.specs.SitesLaws.{all-each, lt-or-le}
 use Rattle.command.specs.Command.{allValid, wrong}
+use Rattle.history.specs.declared.History.{History as Stored}
 use Rattle.history.specs.History.{Extends, improper, extends, validHistory}
 use Rattle.history.specs.ExtensionLaws.{extends-refl, extends-sound}
 use Rattle.history.specs.ValidLaws.{ValidHistory, valid-parts, parts-valid, not-improper, proper-some}
@@ -32,9 +34,10 @@ use Rattle.table.specs.Table.{sites, rowOf, storedAt, validTable}
 use Rattle.table.specs.TableLaws.{Sized, stored-sized, row-stored, row-stored-other}
 use Rattle.table.specs.ValidLaws.{valid-stored}
 use Rattle.refusal.specs.declared.Refusal.{Refusal}
-use Rattle.refusal.specs.declared.Refusal.the-variants.{Config}
+use Rattle.refusal.specs.declared.Refusal.the-variants.{Config, Form, Sender, Stale, Proof, Command, History as Improper, Contradiction, Split, Full}
 use Rattle.refusal.specs.Rules.{judged}
-use Rattle.refusal.specs.JudgedLaws.{GivenFirst, NoneHolds, passed, pass, Judgement, refused, accepts, judgement, rising}
+use Rattle.refusal.specs.Order.{inOrder, follows}
+use Rattle.refusal.specs.JudgedLaws.{GivenFirst, NoneHolds, Judgement, refused, accepts, judgement, testOf, no-test}
 use Rattle.frame.specs.Format.{readingOf, malformed}
 use Rattle.frame.specs.FormatLaws.{found-n}
 use Rattle.learner.specs.declared.State.{State}
@@ -44,19 +47,17 @@ use Rattle.learner.specs.Learner.{
   form,
   vote,
   arrived,
-  sender,
-  stale,
-  proof,
-  contradicts,
   withVote,
   supporters,
   claimed,
+  claims,
+  further,
+  merging,
   mergeOf,
-  splits,
-  overflows,
   after,
   accepted,
   refuse,
+  contradicts,
   rules,
   step,
 }
@@ -67,14 +68,14 @@ use Rattle.learner.specs.Learner.{
 pub record Accepts (r : Roster) (s : State) (line : List ℕ) : Type 0 where
   pub configured : config r s ≡ false
   pub framed : form line ≡ false
-  pub from-site : sender r (vote line) ≡ false
-  pub balloted : stale (vote line) ≡ false
-  pub proven : proof r (vote line) ≡ false
+  pub from-site : leb (r .n) (vote line .sender) ≡ false
+  pub balloted : zeroBallot (vote line .ballot) ≡ false
+  pub proven : (beyond (vote line .mask) (r .n) || not (reaches (vote line .mask) (quorum r))) ≡ false
   pub right : wrong (arrived (vote line)) ≡ false
   pub proper : improper (arrived (vote line)) ≡ false
   pub agrees : contradicts (rowOf (s .entries) (vote line .sender)) (arrived (vote line)) ≡ false
-  pub joins : splits r (withVote (s .entries) (vote line .sender) (arrived (vote line))) s (arrived (vote line)) ≡ false
-  pub fits : overflows r (withVote (s .entries) (vote line .sender) (arrived (vote line))) s (arrived (vote line)) ≡ false
+  pub joins : mergeOf r (withVote (s .entries) (vote line .sender) (arrived (vote line))) s (arrived (vote line)) .split ≡ false
+  pub fits : mergeOf r (withVote (s .entries) (vote line .sender) (arrived (vote line))) s (arrived (vote line)) .full ≡ false
   pub outcome : step r s line ≡ accepted r s (vote line .sender) (arrived (vote line))
 
 pub data Stepped (r : Roster) (s : State) (line : List ℕ) : Type 0 where
@@ -82,22 +83,22 @@ pub data Stepped (r : Roster) (s : State) (line : List ℕ) : Type 0 where
   accepting : Accepts r s line → Stepped r s line
 
 pub stepped : (r : Roster) (s : State) (line : List ℕ) → Stepped r s line
-unfolding step
+unfolding step testOf
 stepped r s line = go (judgement (refuse s) (accepted r s (vote line .sender) (arrived (vote line))) (rules r s line))
   where
     none : NoneHolds (rules r s line) → step r s line ≡ accepted r s (vote line .sender) (arrived (vote line)) → Accepts r s line
-    none (pass a (pass b (pass c (pass d (pass e (pass f (pass g (pass h (pass i (pass j passed)))))))))) o =
+    none n o =
         record {
-          configured = a;
-          framed = b;
-          from-site = c;
-          balloted = d;
-          proven = e;
-          right = f;
-          proper = g;
-          agrees = h;
-          joins = i;
-          fits = j;
+          configured = no-test n Config;
+          framed = no-test n Form;
+          from-site = no-test n Sender;
+          balloted = no-test n Stale;
+          proven = no-test n Proof;
+          right = no-test n Command;
+          proper = no-test n Improper;
+          agrees = no-test n Contradiction;
+          joins = no-test n Split;
+          fits = no-test n Full;
           outcome = o;
         }
 
@@ -105,10 +106,10 @@ stepped r s line = go (judgement (refuse s) (accepted r s (vote line .sender) (a
     go (refused e g o) = refuses e g o
     go (accepts n o) = accepting (none n o)
 
--- "Checks run in this order": the numbers of the rules rise
-pub rules-rise : (r : Roster) (s : State) (line : List ℕ) → rising 0 (rules r s line) ≡ true
-unfolding rising
-rules-rise r s line = refl
+-- "Checks run in this order": the rules follow the order of the table of refusals
+pub rules-follow : (r : Roster) (s : State) (line : List ℕ) → follows inOrder (rules r s line) ≡ true
+unfolding follows
+rules-follow r s line = refl
 
 -- ---- what the learner keeps
 
@@ -175,7 +176,6 @@ arrived-is {line = line} a =
     }
 
 pub sender-below : {r : Roster} {s : State} {line : List ℕ} → Accepts r s line → vote line .sender < r .n
-unfolding sender
 sender-below {r} {line = line} a = leb-false (r .n) (vote line .sender) (a .from-site)
 
 -- ---- the entries
@@ -241,32 +241,41 @@ learned-merge g h p q a x y = go (merged-answers limit g h q (a .short) (a .vali
           valid = stored-valid m n (parts-valid (is-merge-valid p (a .valid) k));
         })
 
+-- the merge of what is learned and the claims: that with the arrived history where it is claimed, else what is learned
+module _ (r : Roster) (t : Table) (s : State) (h : List ℕ) where
+  pub merge-claimed : claimed r t h ≡ true → mergeOf r t s h ≡ merged limit (commands (s .learned)) h
+  unfolding claims merging further
+  merge-claimed e = rw e
+
+  pub merge-unclaimed : claimed r t h ≡ false → mergeOf r t s h ≡ record { split = false; full = false; history = s .learned }
+  unfolding claims merging further
+  merge-unclaimed e = rw e
+
 -- the state after an accepted vote, of which t are the entries
 module _ (r : Roster) (t : Table) (s : State) (h : List ℕ) (p : validStored (s .learned) ≡ true) (a : Arrived h)
-    (x : splits r t s h ≡ false) (y : overflows r t s h ≡ false) where
-  merging : claimed r t h ≡ true → Learned (commands (s .learned)) h (mergeOf s h)
-  unfolding splits overflows
-  merging e =
-      learned-merge (commands (s .learned)) h (valid-parts (commands (s .learned)) (valid-stored-history (s .learned) p)) (valid-stored-length (s .learned) p) a
-      (rw e at x) (rw e at y)
+    (x : mergeOf r t s h .split ≡ false) (y : mergeOf r t s h .full ≡ false) where
+  claim-merged : claimed r t h ≡ true → Learned (commands (s .learned)) h (mergeOf r t s h)
+  claim-merged e =
+      let l = commands (s .learned) in
+      let m = merge-claimed r t s h e in
+      subst (λ (k : Merged). Learned l h k) (sym m)
+      (learned-merge l h (valid-parts l (valid-stored-history (s .learned) p)) (valid-stored-length (s .learned) p) a
+      (sym (ap (λ (k : Merged). k .split) m) ∙ x) (sym (ap (λ (k : Merged). k .full) m) ∙ y))
 
-  merged-state : claimed r t h ≡ true → after r t s h .learned ≡ mergeOf s h .history
-  unfolding after
-  merged-state e = rw e
-
-  same-state : claimed r t h ≡ false → after r t s h .learned ≡ s .learned
-  unfolding after
-  same-state e = rw e
+  same-learned : claimed r t h ≡ false → after r t s h .learned ≡ s .learned
+  same-learned e = ap (λ (k : Merged). k .history) (merge-unclaimed r t s h e)
 
   pub after-grows : Extends (commands (after r t s h .learned)) (commands (s .learned))
   after-grows =
-      ⊎-elim (λ e. rw (merged-state e) (merging e .grown)) (λ e. rw (same-state e) (extends-refl (commands (s .learned)))) (true-or-false (claimed r t h))
+      ⊎-elim (λ e. claim-merged e .grown)
+      (λ e. subst (λ (l : Stored). Extends (commands l) (commands (s .learned))) (sym (same-learned e)) (extends-refl (commands (s .learned))))
+      (true-or-false (claimed r t h))
 
   pub after-holds : claimed r t h ≡ true → Extends (commands (after r t s h .learned)) h
-  after-holds e = rw (merged-state e) (merging e .holds)
+  after-holds e = claim-merged e .holds
 
   pub after-valid : validStored (after r t s h .learned) ≡ true
-  after-valid = ⊎-elim (λ e. rw (merged-state e) (merging e .valid)) (λ e. rw (same-state e) p) (true-or-false (claimed r t h))
+  after-valid = ⊎-elim (λ e. claim-merged e .valid) (λ e. ap validStored (same-learned e) ∙ p) (true-or-false (claimed r t h))
 
 -- ---- one step
 
@@ -275,10 +284,6 @@ pub record Advance (r : Roster) (s next : State) : Type 0 where
   pub sound : Sound r next
   pub entries-grow : (i : ℕ) → Extends (rowOf (next .entries) i) (rowOf (s .entries) i)
   pub learned-grows : Extends (commands (next .learned)) (commands (s .learned))
-
-after-entries : (r : Roster) (t : Table) (s : State) (h : List ℕ) → after r t s h .entries ≡ t
-unfolding after
-after-entries r t s h = refl
 
 module _ {r : Roster} {s : State} (p : Sound r s) {line : List ℕ} (a : Accepts r s line) where
   in-table : vote line .sender < sites
@@ -292,19 +297,19 @@ module _ {r : Roster} {s : State} (p : Sound r s) {line : List ℕ} (a : Accepts
       let v = arrived-is a in
       record {
         sound = record {
-          sized = rw (after-entries r t s h) (vote-sized (p .sized) site h in-table (v .short));
+          sized = vote-sized (p .sized) site h in-table (v .short);
           roster = p .roster;
-          entries = rw (after-entries r t s h) (vote-valid (p .sized) site h in-table (v .short) (r .n) (p .entries) (sender-below a) (parts-valid (v .valid)));
+          entries = vote-valid (p .sized) site h in-table (v .short) (r .n) (p .entries) (sender-below a) (parts-valid (v .valid));
           learned = after-valid r t s h (p .learned) v (a .joins) (a .fits);
         };
-        entries-grow = λ i. rw (after-entries r t s h) (vote-grows (p .sized) site h in-table (v .short) i);
+        entries-grow = λ i. vote-grows (p .sized) site h in-table (v .short) i;
         learned-grows = after-grows r t s h (p .learned) v (a .joins) (a .fits);
       }
 
   -- an accepted vote leaves its site's entry extending it
   pub vote-entered : Extends (rowOf (step r s line .state .entries) (vote line .sender)) (arrived (vote line))
   vote-entered =
-      rw (a .outcome, after-entries r (withVote (s .entries) (vote line .sender) (arrived (vote line))) s (arrived (vote line)))
+      rw (a .outcome)
       (vote-enters (p .sized) (vote line .sender) (arrived (vote line)) in-table (arrived-is a .short) (a .agrees))
 
   -- where the entries of N-f sites then extend it, what is learned does
@@ -315,7 +320,7 @@ module _ {r : Roster} {s : State} (p : Sound r s) {line : List ℕ} (a : Accepts
       let h = arrived (vote line) in
       let t = withVote (s .entries) (vote line .sender) h in
       rw (a .outcome)
-      (after-holds r t s h (p .learned) (arrived-is a) (a .joins) (a .fits) (le-leb (quorum r) _ (rw (a .outcome, after-entries r t s h) at q)))
+      (after-holds r t s h (p .learned) (arrived-is a) (a .joins) (a .fits) (le-leb (quorum r) _ (rw (a .outcome) at q)))
 
 pub step-advance : {r : Roster} {s : State} → Sound r s → (line : List ℕ) → Advance r s (step r s line .state)
 step-advance {r} {s} p line = go (stepped r s line)

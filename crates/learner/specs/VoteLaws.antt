@@ -1,11 +1,12 @@
 -- What a vote does to the entries and to what is learned, and what SPLIT means: the facts that agreement rests on.
 use mathlib.Core.Path.{_≡_, refl, sym, ap, _∙_, subst}
-use mathlib.Core.Bool.{Bool, true, false, cond, true≢false}
-use mathlib.Core.List.{List, [], _∷_}
+use mathlib.Core.Bool.{Bool, true, false, not, _&&_, true≢false}
+use mathlib.Core.List.{List, [], _∷_, _++_}
 use Prim.Native.Nat.{ℕ, _≤_, _<_}
 use native.Mathlib.Omega.{arith}
 use native.Mathlib.Decide.{ℕ-discrete}
-use borrow.Author.Tests.{leb-false, leb-true, eqb-true, not-false}
+use borrow.Author.Tests.{leb-false, leb-true, eqb-true, eq-eqb, not-false}
+use lib.Dec.{leb, eqb}
 use lib.ListN.{length, length-take}
 use Rattle.basics.specs.Bools.{and-left, and-right}
 use Rattle.roster.specs.declared.Roster.{Roster}
@@ -22,25 +23,26 @@ use Rattle.table.specs.declared.Table.{Table}
 use Rattle.table.specs.Table.{sites, rowOf}
 use Rattle.table.specs.TableLaws.{Sized, row-stored, row-stored-other}
 use Rattle.refusal.specs.declared.Refusal.{Refusal}
-use Rattle.refusal.specs.declared.Refusal.the-variants.{Split, Full}
+use Rattle.refusal.specs.declared.Refusal.the-variants.{Form, Sender, Command, History as Improper, Split, Full}
 use Rattle.refusal.specs.declared.Answer.the-variants.{Refused}
 use Rattle.refusal.specs.AnswerLaws.{accepted-not-refused, refused-same}
-use Rattle.refusal.specs.Rules.{_gives_}
-use Rattle.refusal.specs.JudgedLaws.{GivenFirst, at-once, behind}
+use Rattle.refusal.specs.Refusal.{number}
+use Rattle.refusal.specs.Rules.{Rule, _gives_}
+use Rattle.refusal.specs.JudgedLaws.{NoneHolds, passed, pass, GivenFirst, at-once, behind, testOf, no-test}
 use Rattle.frame.specs.declared.Frame.{Frame}
 use Rattle.frame.specs.Format.{readingOf, isLine, frameOf, malformed}
 use Rattle.frame.specs.FormatLaws.{found-line, found-taken, found-frame}
 use Rattle.learner.specs.declared.State.{State}
 use Rattle.learner.specs.declared.Outcome.{Outcome}
-use Rattle.learner.specs.Learner.{taken, form, vote, arrived, sender, withVote, supporters, claimed, mergeOf, splits, overflows, after, rules, step}
-use Rattle.learner.specs.StepLaws.{Accepts, Stepped, refuses, accepting, stepped, Sound, Arrived, taken-is, vote-count, vote-stored, vote-stays}
+use Rattle.learner.specs.Learner.{taken, form, vote, arrived, withVote, supporters, claimed, mergeOf, mergeRules, earlyRules, rules, step}
+use Rattle.learner.specs.StepLaws.{Accepts, Stepped, refuses, accepting, stepped, Sound, Arrived, taken-is, vote-count, vote-stored, vote-stays, merge-claimed, merge-unclaimed}
 
 -- ---- a vote that is heard
 
 -- a vote that passes the checks before those of the merge, as far as they matter here
 pub record Heard (r : Roster) (line : List ℕ) : Type 0 where
   pub framed : form line ≡ false
-  pub from-site : sender r (vote line) ≡ false
+  pub from-site : leb (r .n) (vote line .sender) ≡ false
   pub right : wrong (arrived (vote line)) ≡ false
   pub proper : improper (arrived (vote line)) ≡ false
 
@@ -64,7 +66,6 @@ module _ {r : Roster} {line : List ℕ} (a : Heard r line) where
   heard-kind = ap (λ (m : Frame). m .kind) heard-frame ∙ eqb-true (frameOf line .kind) 7 (sym (taken-is (frameOf line .kind)) ∙ found-taken line taken found)
 
   pub heard-sender : vote line .sender < r .n
-  unfolding sender
   heard-sender = leb-false (r .n) (vote line .sender) (a .from-site)
 
   pub heard-arrived : Arrived (arrived (vote line))
@@ -106,7 +107,6 @@ claimed-backing r t h e = leb-true (quorum r) (supporters r t h) e
 
 -- an accepted vote leaves these entries
 pub accepted-entries : {r : Roster} {s : State} {line : List ℕ} → Accepts r s line → step r s line .state .entries ≡ withLine s line
-unfolding after
 accepted-entries a = ap (λ (o : Outcome). o .state .entries) (a .outcome)
 
 -- ---- what is learned
@@ -125,7 +125,6 @@ module _ {r : Roster} {s : State} (p : Sound r s) {line : List ℕ} (a : Heard r
       merged-answers limit (commands (s .learned)) (arrived (vote line)) (valid-stored-length (s .learned) (p .learned)) (v .short) (v .valid .distinct)
 
 pub accepted-learns : {r : Roster} {s : State} {line : List ℕ} → Sound r s → Accepts r s line → Learns r s line
-unfolding after splits overflows
 accepted-learns {r} {s} {line} p a = go (claimed r t h) refl (merge-is p (accepted-heard a))
   where
     t : Table
@@ -134,17 +133,17 @@ accepted-learns {r} {s} {line} p a = go (claimed r t h) refl (merge-is p (accept
     h : List ℕ
     h = arrived (vote line)
 
-    learned-is : step r s line .state .learned ≡ cond (claimed r t h) (mergeOf s h .history) (s .learned)
+    learned-is : step r s line .state .learned ≡ mergeOf r t s h .history
     learned-is = ap (λ (o : Outcome). o .state .learned) (a .outcome)
 
     go : (b : Bool) → claimed r t h ≡ b → Answers limit (commands (s .learned)) h → Learns r s line
-    go false e m = as-before (learned-is ∙ rw e)
-    go true e (is-split x n) = absurd (true≢false (sym (ap (λ (m : Merged). m .split) x) ∙ rw e at (a .joins)))
-    go true e (is-full x m n) = absurd (true≢false (sym (ap (λ (m : Merged). m .full) x) ∙ rw e at (a .fits)))
+    go false e m = as-before (learned-is ∙ ap (λ (m : Merged). m .history) (merge-unclaimed r t s h e))
+    go true e (is-split x n) = absurd (true≢false (sym (ap (λ (m : Merged). m .split) (merge-claimed r t s h e ∙ x)) ∙ a .joins))
+    go true e (is-full x m n) = absurd (true≢false (sym (ap (λ (m : Merged). m .full) (merge-claimed r t s h e ∙ x)) ∙ a .fits))
     go true e (is-found {m = m} x k n) = merges (claimed-backing r t h e) (subst (Least (commands (s .learned)) h) (sym whole) (k .common))
       where
         whole : commands (step r s line .state .learned) ≡ m
-        whole = rw (learned-is, e, x) (commands-stored m n)
+        whole = ap commands (learned-is ∙ ap (λ (m : Merged). m .history) (merge-claimed r t s h e ∙ x)) ∙ commands-stored m n
 
 -- ---- SPLIT
 
@@ -160,25 +159,48 @@ full-only (behind e g) = given-none g
     given-none : GivenFirst Split [] → ⊥
     given-none g = elim g [ ]
 
+-- where rules give e and none of the first ones does, none of these holds, and those after them give it
+gives-none : Refusal → List Rule → Bool
+gives-none e [] = true
+gives-none e (test gives r ∷ rules) = not (eqb (number e) (number r)) && gives-none e rules
+
+later : (e : Refusal) (a b : List Rule) → gives-none e a ≡ true → GivenFirst e (a ++ b) → NoneHolds a × GivenFirst e b
+unfolding gives-none
+later e [] b n g = (passed, g)
+later e (test gives r ∷ a) b n (at-once f) = absurd (true≢false (sym (and-left (not (eqb (number e) (number e))) _ n) ∙ ap not (eq-eqb (number e) (number e) refl)))
+later e (test gives r ∷ a) b n (behind f g) =
+    let x = later e a b (and-right (not (eqb (number e) (number r))) _ n) g in
+    (pass f (x .0), x .1)
+
 -- SPLIT is given only there
 pub split-is : {r : Roster} {s : State} (line : List ℕ) → Sound r s → step r s line .answer ≡ Refused Split → Splits r s line
-unfolding splits
+unfolding testOf gives-none
 split-is {r} {s} line p e = go (stepped r s line)
   where
     h : List ℕ
     h = arrived (vote line)
 
-    splitting : Heard r line → splits r (withLine s line) s h ≡ true → Answers limit (commands (s .learned)) h → Splits r s line
-    splitting a x (is-split y n) =
-        record { heard = a; backing = claimed-backing r (withLine s line) h (and-left (claimed r (withLine s line) h) _ x); apart = n }
-    splitting a x (is-full y k n) = absurd (true≢false (sym (and-right (claimed r (withLine s line) h) _ x) ∙ ap (λ (m : Merged). m .split) y))
-    splitting a x (is-found y k n) = absurd (true≢false (sym (and-right (claimed r (withLine s line) h) _ x) ∙ ap (λ (m : Merged). m .split) y))
+    t : Table
+    t = withLine s line
+
+    splitting : Heard r line → (b : Bool) → claimed r t h ≡ b → mergeOf r t s h .split ≡ true → Answers limit (commands (s .learned)) h → Splits r s line
+    splitting a false c x m = absurd (true≢false (sym x ∙ ap (λ (m : Merged). m .split) (merge-unclaimed r t s h c)))
+    splitting a true c x (is-split y n) = record { heard = a; backing = claimed-backing r t h c; apart = n }
+    splitting a true c x (is-full y k n) = absurd (true≢false (sym x ∙ ap (λ (m : Merged). m .split) (merge-claimed r t s h c ∙ y)))
+    splitting a true c x (is-found y k n) = absurd (true≢false (sym x ∙ ap (λ (m : Merged). m .split) (merge-claimed r t s h c ∙ y)))
+
+    first : {one other : Bool} → GivenFirst Split (one gives Split ∷ other gives Full ∷ []) → one ≡ true
+    first (at-once f) = f
+    first (behind f g) = absurd (full-only g)
+
+    heard-by : NoneHolds (earlyRules r s line) → Heard r line
+    heard-by n = record { framed = no-test n Form; from-site = no-test n Sender; right = no-test n Command; proper = no-test n Improper }
 
     given : GivenFirst Split (rules r s line) → Splits r s line
-    given (behind a (behind b (behind c (behind d (behind x (behind f (behind g (behind i (at-once j))))))))) =
-        let heard : Heard r line = record { framed = b; from-site = c; right = f; proper = g } in
-        splitting heard j (merge-is p heard)
-    given (behind a (behind b (behind c (behind d (behind x (behind f (behind g (behind i (behind j k))))))))) = absurd (full-only k)
+    given g =
+        let x = later Split (earlyRules r s line) (mergeRules (mergeOf r t s h)) refl g in
+        let a = heard-by (x .0) in
+        splitting a (claimed r t h) refl (first (x .1)) (merge-is p a)
 
     go : Stepped r s line → Splits r s line
     go (refuses q g o) = given (subst (λ (x : Refusal). GivenFirst x (rules r s line)) (refused-same (sym (ap (λ (x : Outcome). x .answer) o) ∙ e)) g)

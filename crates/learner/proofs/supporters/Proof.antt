@@ -6,7 +6,7 @@ use mathlib.Core.Path.{_≡_, sym, ap, _∙_}
 use borrow.Author.Needs.{needs}
 use Rattle.roster.specs.Sites.{countTo}
 use Rattle.roster.specs.SitesLaws.{count-zero, count-hit, count-miss, count-le}
-use Rattle.learner.specs.Verdict.{stands}
+use Rattle.learner.specs.Code.Vote.{stands}
 use Rattle.learner.proofs.supporters.Statement.{statement}
 use Rattle.learner.proofs.supporters.Tie as tie
 
