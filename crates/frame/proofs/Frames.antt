@@ -11,11 +11,12 @@ use lib.Seq.{take-at, drop-at, drop-drop, set-at, take-all, length-take-le}
 use borrow.Author.Tests.{lt-ltb, lt-leb, le-leb}
 use Rattle.basics.specs.Bools.{and-both}
 use Rattle.basics.specs.Lists.{drop-next}
+use Rattle.words.specs.Sizes.{capacity}
 use Rattle.frame.specs.declared.Frame.{Frame}
 use Rattle.frame.specs.declared.Heading.{Heading}
 use Rattle.frame.specs.Hex.{digitsOf, spell, allFit, total}
 use Rattle.frame.specs.HexLaws.{length-digits}
-use Rattle.frame.specs.Layout.{commandWidth, widths, values, count, first, second, lineLength}
+use Rattle.frame.specs.Layout.{commandWidth, frameCapacity, widths, values, count, first, second, lineLength}
 use Rattle.frame.specs.Kinds.{unusedZero}
 use Rattle.frame.specs.Format.{commands, lineOf, proper, allZero, fits, writable, hasRoom, writtenLength, written, headOf, frameFrom, listed, lengthFrom, writtenFrom}
 use Rattle.frame.specs.FormatLaws.{proper-count}
@@ -39,7 +40,7 @@ pub record Sized (h : Heading) : Type 0 where
   pub sender : h .sender < 256
   pub view : h .view .0 < 2 ^ 32
   pub ballot : h .ballot .0 < 2 ^ 32
-  pub proven : h .proven .0 < 2 ^ 32
+  pub «proven_ballot» : h .«proven_ballot» .0 < 2 ^ 32
   pub mask : h .mask < 2 ^ 16
   pub n : h .n < 256
   pub m : h .m < 256
@@ -52,7 +53,7 @@ sized-fits h g k s =
       lt-ltb (h .sender) 256 (s .sender),
       lt-ltb (h .view .0) (2 ^ 32) (s .view),
       lt-ltb (h .ballot .0) (2 ^ 32) (s .ballot),
-      lt-ltb (h .proven .0) (2 ^ 32) (s .proven),
+      lt-ltb (h .«proven_ballot» .0) (2 ^ 32) (s .«proven_ballot»),
       lt-ltb (h .mask) (2 ^ 16) (s .mask),
       lt-ltb (h .n) 256 (s .n),
       lt-ltb (h .m) 256 (s .m),
@@ -76,7 +77,7 @@ not-writable : (f : Frame) (out : List ℕ) → writable f ≡ false → Unwritt
 unfolding hasRoom
 not-writable f out e = no-room f out (rw e)
 
-not-proper : (f : Frame) (out : List ℕ) → proper f ≡ false → Unwritten f out
+not-proper : (f : Frame) (out : List ℕ) → proper capacity f ≡ false → Unwritten f out
 unfolding writable
 not-proper f out e = not-writable f out (rw e)
 
@@ -92,7 +93,7 @@ module _ (h : Heading) (g k out : List ℕ) where
     unwritten : Unwritten (frameFrom h g k) out → UnwrittenFrom
     unwritten u = (u .0 ∙ sym (from-listed h g k out e .0), u .1 ∙ sym (from-listed h g k out e .1))
 
-    pub from-not-proper : properHeader (values (frameFrom h g k)) ≡ false → UnwrittenFrom
+    pub from-not-proper : properHeader capacity (values (frameFrom h g k)) ≡ false → UnwrittenFrom
     unfolding proper properHeader unusedZero
     from-not-proper p = unwritten (not-proper (frameFrom h g k) out p)
 
@@ -203,13 +204,13 @@ module _ (out g k head hdr : List ℕ) (eight : length head ≡ 8) (eh : hdr ≡
           ∙ sym (append-assoc ((hdr ++ a) ++ b) (10 ∷ []) r)
           ∙ ap (λ (l : List ℕ). l ++ r) (ap (λ (l : List ℕ). l ++ 10 ∷ []) (append-assoc hdr a b) ∙ append-assoc hdr (a ++ b) (10 ∷ []))
 
-      pub all-written : (h : Heading) → head ≡ values (frameFrom h g k) → listed h g k ≡ true → Sized h → properHeader head ≡ true
+      pub all-written : (h : Heading) → head ≡ values (frameFrom h g k) → listed h g k ≡ true → Sized h → properHeader capacity head ≡ true
           → ((i : ℕ) → getD g i 0 < 2 ^ 64) → ((i : ℕ) → getD k i 0 < 2 ^ 64)
           → (36 + 16 * length g + 16 * length k + 1 ≡ lengthFrom h g k out) × (set both (36 + 16 * length g + 16 * length k) 10 ≡ writtenFrom h g k out)
       unfolding writtenLength written hasRoom total proper properHeader unusedZero end
       all-written h same e s p fg fk =
           let f = frameFrom h g k in
-          let good : proper f ≡ true = ap properHeader (sym same) ∙ p in
+          let good : proper capacity f ≡ true = ap (properHeader capacity) (sym same) ∙ p in
           let can : writable f ≡ true =
           from-writable h g k e good (sized-fits h g k s) (words-fit (length g) g refl fg) (words-fit (length k) k refl fk) in
           let long : end + 1 ≡ lineLength (count f) = omega (arith, listed-count h g k e) in
@@ -226,12 +227,12 @@ module _ (out g k head hdr : List ℕ) (eight : length head ≡ 8) (eh : hdr ≡
 
 -- ---- a frame by value, written by its heading and its two lists
 
-module _ (f : Frame) (out : List ℕ) (size : length (f .words) ≡ 64) where
+module _ (f : Frame) (out : List ℕ) (size : length (f .words) ≡ frameCapacity) where
   pub too-many : length (f .words) < count f → Unwritten f out
-  too-many h = go (proper f) refl
+  too-many h = go (proper capacity f) refl
     where
-      go : (b : Bool) → proper f ≡ b → Unwritten f out
-      go true e = absurd (omega (arith, proper-count f e))
+      go : (b : Bool) → proper capacity f ≡ b → Unwritten f out
+      go true e = absurd (omega (arith, proper-count capacity f e))
       go false e = not-proper f out e
 
   -- the words after the commands, as the code takes them
@@ -242,7 +243,8 @@ module _ (f : Frame) (out : List ℕ) (size : length (f .words) ≡ 64) where
   unfolding writable
   not-clear e =
       not-writable f out
-      (ap (λ (l : List ℕ). proper f && (allZero l && fits f)) (sym tail-is) ∙ ap (λ (b : Bool). proper f && (b && fits f)) e ∙ and-false (proper f))
+      (ap (λ (l : List ℕ). proper capacity f && (allZero l && fits f)) (sym tail-is) ∙ ap (λ (b : Bool). proper capacity f && (b && fits f)) e
+      ∙ and-false (proper capacity f))
 
   module _ (few : count f ≤ length (f .words)) where
     second-is : take (count f - f .n) (drop (f .n) (f .words)) ≡ second f

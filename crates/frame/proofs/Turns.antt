@@ -82,23 +82,23 @@ fine-is c = go (isDigit c) refl
 
 -- ---- a header's values
 
-module _ (h : List ℕ) where
-  abbrev pub known : Bool
-  known = leb 1 (getD h 0 0) && ltb (getD h 0 0) 11
+abbrev pub known : List ℕ → Bool
+known h = leb 1 (getD h 0 0) && ltb (getD h 0 0) 11
 
-  abbrev pub few : Bool
-  few = leb (getD h 6 0) 32 && leb (getD h 7 0) 32
+abbrev pub few : ℕ → List ℕ → Bool
+few limit h = leb (getD h 6 0) limit && leb (getD h 7 0) limit
 
+module _ (limit : ℕ) (h : List ℕ) where
   -- an unknown kind, counts too high, and otherwise the fields that the kind doesn't use
-  pub proper-unknown : known ≡ false → properHeader h ≡ false
+  pub proper-unknown : known h ≡ false → properHeader limit h ≡ false
   unfolding properHeader isKind uses
-  proper-unknown e = ap (λ (b : Bool). b && (few && zeroUnless (getD uses (getD h 0 0) []) h)) e
+  proper-unknown e = ap (λ (b : Bool). b && (few limit h && zeroUnless (getD uses (getD h 0 0) []) h)) e
 
-  pub proper-many : known ≡ true → few ≡ false → properHeader h ≡ false
+  pub proper-many : known h ≡ true → few limit h ≡ false → properHeader limit h ≡ false
   unfolding properHeader isKind uses
   proper-many e f = ap₂ (λ (a b : Bool). a && (b && zeroUnless (getD uses (getD h 0 0) []) h)) e f
 
-  pub proper-rest : known ≡ true → few ≡ true → properHeader h ≡ zeroUnless (getD uses (getD h 0 0) []) h
+  pub proper-rest : known h ≡ true → few limit h ≡ true → properHeader limit h ≡ zeroUnless (getD uses (getD h 0 0) []) h
   unfolding properHeader isKind uses
   proper-rest e f = ap₂ (λ (a b : Bool). a && (b && zeroUnless (getD uses (getD h 0 0) []) h)) e f
 

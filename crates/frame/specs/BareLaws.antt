@@ -1,19 +1,18 @@
 -- A role whose kinds use neither n nor m reads every line of these kinds as one with no commands.
-use Prim.Native.Nat.{ℕ, zero, suc, _<_}
-use native.Mathlib.Omega.{arith}
+use Prim.Native.Nat.{ℕ, zero, suc, _-_, _<_, zero-le}
 use mathlib.Core.Path.{_≡_, refl, sym, ap, _∙_}
-use mathlib.Core.Bool.{Bool, true, false, not, cond, _&&_, _||_, true≢false}
+use mathlib.Core.Bool.{Bool, true, false, not, _&&_, _||_, and-false, true≢false}
 use mathlib.Core.List.{List, [], _∷_}
 use lib.Dec.{leb, ltb, eqb}
-use lib.ListN.{getD}
-use borrow.Author.Tests.{eqb-true, eq-eqb, ltb-true, not-true}
+use lib.ListN.{length, getD, take}
+use borrow.Author.Tests.{eqb-true, le-leb, ltb-true, not-true}
 use Rattle.basics.specs.Bools.{and-left, and-right, implies, everyBelow, every-at}
 use Rattle.roster.specs.Mask.{bit}
 use Rattle.frame.specs.declared.Frame.{Frame}
-use Rattle.frame.specs.Layout.{values, count}
+use Rattle.frame.specs.Hex.{allDigits}
+use Rattle.frame.specs.Layout.{values, count, lineLength}
 use Rattle.frame.specs.Kinds.{uses, isKind, zeroUnless, unusedZero}
-use Rattle.frame.specs.Format.{proper, nothing, readingOf, bareReading}
-use Rattle.frame.specs.FormatLaws.{proper-kind, proper-unused, writable-is, reading-none, found-taken, found-frame, found-writable}
+use Rattle.frame.specs.Format.{lineFeed, proper, frameOf, isLine, readingOf}
 
 -- whether a kind uses neither n nor m, the fields 6 and 7; and whether each of these kinds (kind k is bit k) does so
 unfoldable pub bareKind : ℕ → Bool
@@ -31,29 +30,44 @@ unused-at (u ∷ us) (x ∷ xs) zero z e =
     eqb-true x 0 (ap (λ (b : Bool). b || eqb x 0) (sym e) ∙ and-left (u || eqb x 0) (zeroUnless us xs) z)
 unused-at (u ∷ us) (x ∷ xs) (suc k) z e = unused-at us xs k (and-right (u || eqb x 0) (zeroUnless us xs) z) e
 
--- so a proper frame of such a kind has no commands
-bare-count : (f : Frame) → proper f ≡ true → bareKind (f .kind) ≡ true → count f ≡ 0
-unfolding bareKind unusedZero
-bare-count f p b =
-    let row = getD uses (f .kind) [] in
-    let n = unused-at row (values f) 6 (proper-unused f p) (not-true (getD row 6 true) (and-left (not (getD row 6 true)) _ b)) in
-    let m = unused-at row (values f) 7 (proper-unused f p) (not-true (getD row 7 true) (and-right (not (getD row 6 true)) _ b)) in
-    omega (arith, n, m)
+-- so the limit is nothing to whether a frame of such a kind is proper
+module _ (limit : ℕ) (f : Frame) (bare : isKind (f .kind) ≡ true → bareKind (f .kind) ≡ true) where
+  none : isKind (f .kind) ≡ true → unusedZero f ≡ true → (f .n ≡ 0) × (f .m ≡ 0)
+  unfolding bareKind unusedZero
+  none k z =
+      let row = getD uses (f .kind) [] in (
+        unused-at row (values f) 6 z (not-true (getD row 6 true) (and-left (not (getD row 6 true)) _ (bare k))),
+        unused-at row (values f) 7 z (not-true (getD row 7 true) (and-right (not (getD row 6 true)) _ (bare k))),
+      )
+
+  bare-proper : proper 0 f ≡ proper limit f
+  unfolding proper
+  bare-proper = go (isKind (f .kind)) (unusedZero f) refl refl
+    where
+      go : (k u : Bool) → isKind (f .kind) ≡ k → unusedZero f ≡ u
+          → (k && ((leb (f .n) 0 && leb (f .m) 0) && u)) ≡ (k && ((leb (f .n) limit && leb (f .m) limit) && u))
+      go false u e z = refl
+      go true false e z = and-false (leb (f .n) 0 && leb (f .m) 0) ∙ sym (and-false (leb (f .n) limit && leb (f .m) limit))
+      go true true e z = let zeros = none e z in rw (zeros .0, zeros .1, le-leb 0 limit zero-le)
 
 known-below : (k : ℕ) → isKind k ≡ true → k < 11
 unfolding isKind uses
 known-below k e = ltb-true k 11 (and-right (leb 1 k) (ltb k 11) e)
 
-pub bare-reading : (l : List ℕ) (kinds : ℕ) → bareKinds kinds ≡ true → bareReading l kinds ≡ readingOf l kinds
-unfolding bareReading bareKinds
-bare-reading l kinds k = go (readingOf l kinds .found) refl
-  where
-    go : (b : Bool) → readingOf l kinds .found ≡ b → cond (eqb (count (readingOf l kinds .frame)) 0) (readingOf l kinds) nothing ≡ readingOf l kinds
-    go false e = rw (reading-none l kinds e)
-    go true e =
-        let f = readingOf l kinds .frame in
-        let good = writable-is f (found-writable l kinds e) .values-proper in
-        let taken : bit kinds (f .kind) ≡ true = ap (λ (g : Frame). bit kinds (g .kind)) (found-frame l kinds e) ∙ found-taken l kinds e in
-        let every = every-at 11 (λ i. not (bit kinds i) || bareKind i) k (f .kind) (known-below (f .kind) (proper-kind f good)) in
-        let none = bare-count f good (implies (bit kinds (f .kind)) (bareKind (f .kind)) taken every) in
-        ap (λ (b : Bool). cond b (readingOf l kinds) nothing) (eq-eqb (count f) 0 none)
+-- a role that takes such kinds alone reads a line under each limit as one with no commands
+module _ (limit : ℕ) (l : List ℕ) (kinds : ℕ) (k : bareKinds kinds ≡ true) where
+  bare-line : bit kinds (frameOf l .kind) ≡ true → isLine 0 l ≡ isLine limit l
+  unfolding isLine bareKinds
+  bare-line taken =
+      ap (λ (b : Bool). (allDigits (take (length l - 1) l) && eqb (getD l (length l - 1) 0) lineFeed) && (eqb (length l) (lineLength (count (frameOf l))) && b))
+      (bare-proper limit (frameOf l)
+      (λ e. implies (bit kinds (frameOf l .kind)) (bareKind (frameOf l .kind)) taken
+      (every-at 11 (λ i. not (bit kinds i) || bareKind i) k (frameOf l .kind) (known-below (frameOf l .kind) e))))
+
+  pub bare-reading : readingOf 0 l kinds ≡ readingOf limit l kinds
+  unfolding readingOf
+  bare-reading = go (bit kinds (frameOf l .kind)) refl
+    where
+      go : (b : Bool) → bit kinds (frameOf l .kind) ≡ b → readingOf 0 l kinds ≡ readingOf limit l kinds
+      go false e = rw (e, and-false (isLine 0 l), and-false (isLine limit l))
+      go true e = rw (bare-line e)

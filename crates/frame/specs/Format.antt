@@ -4,13 +4,14 @@ use mathlib.Core.Bool.{Bool, true, false, not, cond, _&&_}
 use mathlib.Core.List.{List, [], _∷_, _++_}
 use lib.Dec.{leb, eqb}
 use lib.ListN.{length, getD, take, drop, replicate}
+use Rattle.words.specs.Sizes.{capacity}
 use Rattle.words.specs.Words.{padded}
 use Rattle.frame.specs.declared.Frame.{Frame}
 use Rattle.frame.specs.declared.Heading.{Heading}
 use Rattle.frame.specs.declared.Reading.{Reading}
 use Rattle.roster.specs.Mask.{bit}
 use Rattle.frame.specs.Hex.{allDigits, spell, numbers, allFit, total}
-use Rattle.frame.specs.Layout.{commandWidth, limit, capacity, widths, values, withValues, count, lineLength}
+use Rattle.frame.specs.Layout.{commandWidth, frameCapacity, widths, values, withValues, count, lineLength}
 use Rattle.frame.specs.Kinds.{isKind, unusedZero}
 
 -- the widths of k commands
@@ -24,50 +25,46 @@ lineFeed = 10
 unfoldable pub lineOf : Frame → List ℕ
 lineOf f = spell widths (values f) ++ (spell (commands (count f)) (f .words) ++ lineFeed ∷ [])
 
--- what FORM asks of a frame's values: a known kind, n and m at most 32, and 0 in each field that the kind doesn't use
-unfoldable pub proper : Frame → Bool
-proper f = isKind (f .kind) && ((leb (f .n) limit && leb (f .m) limit) && unusedZero f)
+-- what FORM asks of a frame's values: a known kind, n and m at most the limit, and 0 in each field that the kind doesn't use
+unfoldable pub proper : ℕ → Frame → Bool
+proper limit f = isKind (f .kind) && ((leb (f .n) limit && leb (f .m) limit) && unusedZero f)
 
 -- whether all words are 0
 unfoldable pub allZero : List ℕ → Bool
 allZero [] = true
 allZero (w ∷ ws) = eqb w 0 && allZero ws
 
--- whether each field fits its width, and there are 64 words of eight bytes: so it is with each value of the type Frame
+-- whether each field fits its width, and there are as many words of eight bytes as a frame has: so it is with each value of the type Frame
 unfoldable pub fits : Frame → Bool
-fits f = allFit widths (values f) && allFit (commands capacity) (f .words)
+fits f = allFit widths (values f) && allFit (commands frameCapacity) (f .words)
 
--- which frames have a line: those that FORM allows, with 0 in the words after the commands
+-- which frames have a line, whatever the limit: those with proper values that there is room for, with 0 in the words after the commands
 unfoldable pub writable : Frame → Bool
-writable f = proper f && (allZero (drop (count f) (f .words)) && fits f)
+writable f = proper capacity f && (allZero (drop (count f) (f .words)) && fits f)
 
 -- the frame that a line's digits spell: the header's values, and as many commands as they say, with 0 after them
 unfoldable pub framed : List ℕ → List ℕ → Frame
-framed h rest = withValues h (padded capacity (numbers (commands (count (withValues h []))) rest))
+framed h rest = withValues h (padded frameCapacity (numbers (commands (count (withValues h []))) rest))
 
 unfoldable pub frameOf : List ℕ → Frame
 frameOf l = framed (numbers widths l) (drop (2 * total widths) l)
 
 -- whether these characters are such a line: digits and then a line feed; of the length that n and m say; with proper values
-unfoldable pub isLine : List ℕ → Bool
-isLine l =
+unfoldable pub isLine : ℕ → List ℕ → Bool
+isLine limit l =
     (allDigits (take (length l - 1) l) && eqb (getD l (length l - 1) 0) lineFeed)
-    && (eqb (length l) (lineLength (count (frameOf l))) && proper (frameOf l))
+    && (eqb (length l) (lineLength (count (frameOf l))) && proper limit (frameOf l))
 
 -- what is read where there is no frame
 abbrev pub blank : Frame
-blank = withValues [] (replicate capacity 0)
+blank = withValues [] (replicate frameCapacity 0)
 
 abbrev pub nothing : Reading
 nothing = record { found = false; frame = blank }
 
--- what is read of a line by a role that takes these kinds (kind k is bit k): FORM is given exactly if nothing is found
-unfoldable pub readingOf : List ℕ → ℕ → Reading
-readingOf l kinds = cond (isLine l && bit kinds (frameOf l .kind)) (record { found = true; frame = frameOf l }) nothing
-
--- the same, of a line with no commands
-unfoldable pub bareReading : List ℕ → ℕ → Reading
-bareReading l kinds = cond (eqb (count (readingOf l kinds .frame)) 0) (readingOf l kinds) nothing
+-- what is read of a line by a role that takes these kinds (kind k is bit k), n and m being at most the limit: FORM is given exactly if nothing is found
+unfoldable pub readingOf : ℕ → List ℕ → ℕ → Reading
+readingOf limit l kinds = cond (isLine limit l && bit kinds (frameOf l .kind)) (record { found = true; frame = frameOf l }) nothing
 
 -- the heading of a frame, or of none
 abbrev pub headWith : Bool → Frame → Heading
@@ -78,7 +75,7 @@ headWith found f =
       sender = f .sender;
       view = f .view;
       ballot = f .ballot;
-      proven = f .proven;
+      «proven_ballot» = f .«proven_ballot»;
       mask = f .mask;
       n = f .n;
       m = f .m;
@@ -95,7 +92,7 @@ frameWith h ws =
       sender = h .sender;
       view = h .view;
       ballot = h .ballot;
-      proven = h .proven;
+      «proven_ballot» = h .«proven_ballot»;
       mask = h .mask;
       n = h .n;
       m = h .m;
@@ -105,9 +102,9 @@ frameWith h ws =
 abbrev pub readingWith : Heading → List ℕ → Reading
 readingWith h ws = record { found = h .found; frame = frameWith h ws }
 
--- FORM, for a role that takes these kinds: "not such a line; unknown kind or one this role doesn't take"
-unfoldable pub malformed : List ℕ → ℕ → Bool
-malformed l kinds = not (readingOf l kinds .found)
+-- FORM, for a role that takes these kinds: "not such a line; unknown kind or one this role doesn't take; unused field not 0; n or m over" the limit
+unfoldable pub malformed : ℕ → List ℕ → ℕ → Bool
+malformed limit l kinds = not (readingOf limit l kinds .found)
 
 -- whether a frame can be written into so much room
 unfoldable pub hasRoom : Frame → ℕ → Bool
@@ -122,7 +119,7 @@ written f out = cond (hasRoom f (length out)) (lineOf f ++ drop (lineLength (cou
 
 -- the frame with this heading and these two lists of commands, whether the lists are n and m long, and what writing it answers and leaves
 abbrev pub frameFrom : Heading → List ℕ → List ℕ → Frame
-frameFrom h g k = frameWith h (padded capacity (g ++ k))
+frameFrom h g k = frameWith h (padded frameCapacity (g ++ k))
 
 unfoldable pub listed : Heading → List ℕ → List ℕ → Bool
 listed h g k = eqb (length g) (h .n) && eqb (length k) (h .m)

@@ -1,5 +1,5 @@
 -- Laws of the format: reading what was written gives the frame, writing what was read gives the line, and what is known of both.
-use Prim.Native.Nat.{ℕ, zero, suc, _+_, _-_, _*_, _^_, _≤_, _<_}
+use Prim.Native.Nat.{ℕ, zero, suc, _+_, _-_, _*_, _^_, _≤_, _<_, zero-le}
 use native.Mathlib.Nat.{zero-add, suc-add, le-refl}
 use native.Mathlib.Omega.{arith}
 use mathlib.Core.Path.{_≡_, refl, sym, ap, ap₂, subst, _∙_}
@@ -8,8 +8,9 @@ use mathlib.Core.List.{List, [], _∷_, _++_, append-assoc}
 use lib.Dec.{leb, ltb, eqb}
 use lib.ListN.{length, getD, take, drop, replicate, length-append, length-replicate, length-drop, take-append-drop, drop-of-length-le}
 use lib.Seq.{take-at, drop-at, getD-at, take-add, split-at, length-take-le}
-use borrow.Author.Tests.{eqb-true, eq-eqb, leb-true}
+use borrow.Author.Tests.{eqb-true, eq-eqb, leb-true, le-leb}
 use Rattle.basics.specs.Bools.{and-both, and-left, and-right}
+use Rattle.words.specs.Sizes.{capacity}
 use Rattle.words.specs.Words.{padded}
 use Rattle.words.specs.WordsLaws.{padded-zeros}
 use Rattle.frame.specs.declared.Frame.{Frame}
@@ -17,7 +18,7 @@ use Rattle.frame.specs.declared.Reading.{Reading}
 use Rattle.roster.specs.Mask.{bit}
 use Rattle.frame.specs.Hex.{allDigits, digitsOf, spell, numbers, allFit, total}
 use Rattle.frame.specs.HexLaws.{all-append, length-spell, all-spell, numbers-spell, numbers-fit, spell-numbers, length-numbers, numbers-take}
-use Rattle.frame.specs.Layout.{commandWidth, limit, capacity, widths, values, withValues, count, lineLength, longest}
+use Rattle.frame.specs.Layout.{commandWidth, frameCapacity, widths, values, withValues, count, lineLength, longest}
 use Rattle.frame.specs.Kinds.{isKind, unusedZero}
 use Rattle.frame.specs.Format.{commands, lineFeed, lineOf, proper, allZero, fits, writable, framed, frameOf, isLine, blank, nothing, readingOf}
 
@@ -39,7 +40,7 @@ total-commands (suc k) = omega (arith, total-commands k)
 
 -- ---- what is known of a proper and of a writable frame
 
-module _ (f : Frame) (p : proper f ≡ true) where
+module _ (limit : ℕ) (f : Frame) (p : proper limit f ≡ true) where
   pub proper-kind : isKind (f .kind) ≡ true
   unfolding proper
   proper-kind = and-left (isKind (f .kind)) ((leb (f .n) limit && leb (f .m) limit) && unusedZero f) p
@@ -62,25 +63,33 @@ module _ (f : Frame) (p : proper f ≡ true) where
   pub proper-m : f .m ≤ limit
   proper-m = leb-true (f .m) limit (and-right (leb (f .n) limit) (leb (f .m) limit) counts)
 
-  pub proper-count : count f ≤ capacity
+  pub proper-count : count f ≤ limit + limit
   proper-count = omega (arith, proper-n, proper-m)
 
+  -- under another limit it is proper as long as n and m are within that, and so under each that is no less
+  pub proper-within : (other : ℕ) → f .n ≤ other → f .m ≤ other → proper other f ≡ true
+  unfolding proper
+  proper-within other n m = simp (proper-kind, le-leb (f .n) other n, le-leb (f .m) other m, proper-unused)
+
+  pub proper-more : (other : ℕ) → limit ≤ other → proper other f ≡ true
+  proper-more other h = proper-within other (omega (arith, proper-n)) (omega (arith, proper-m))
+
 pub record Written (f : Frame) : Type 0 where
-  pub values-proper : proper f ≡ true
+  pub values-proper : proper capacity f ≡ true
   pub clear : allZero (drop (count f) (f .words)) ≡ true
   pub header-fits : allFit widths (values f) ≡ true
-  pub words-fit : allFit (commands capacity) (f .words) ≡ true
+  pub words-fit : allFit (commands frameCapacity) (f .words) ≡ true
 
 pub writable-is : (f : Frame) → writable f ≡ true → Written f
 unfolding writable fits
 writable-is f e =
     let z = allZero (drop (count f) (f .words)) in
     let a = allFit widths (values f) in
-    let b = allFit (commands capacity) (f .words) in
-    let r = and-right (proper f) (z && (a && b)) e in
+    let b = allFit (commands frameCapacity) (f .words) in
+    let r = and-right (proper capacity f) (z && (a && b)) e in
     let s = and-right z (a && b) r in
     record {
-      values-proper = and-left (proper f) (z && (a && b)) e;
+      values-proper = and-left (proper capacity f) (z && (a && b)) e;
       clear = and-left z (a && b) r;
       header-fits = and-left a b s;
       words-fit = and-right a b s;
@@ -91,19 +100,19 @@ unfolding writable fits
 is-writable f w = simp (w .values-proper, w .clear, w .header-fits, w .words-fit)
 
 -- what makes a line
-pub record Parts (l : List ℕ) : Type 0 where
+pub record Parts (limit : ℕ) (l : List ℕ) : Type 0 where
   pub digits : allDigits (take (length l - 1) l) ≡ true
   pub feed : getD l (length l - 1) 0 ≡ lineFeed
   pub size : length l ≡ lineLength (count (frameOf l))
-  pub values-proper : proper (frameOf l) ≡ true
+  pub values-proper : proper limit (frameOf l) ≡ true
 
-pub line-is : (l : List ℕ) → isLine l ≡ true → Parts l
+pub line-is : (limit : ℕ) (l : List ℕ) → isLine limit l ≡ true → Parts limit l
 unfolding isLine
-line-is l e =
+line-is limit l e =
     let d = allDigits (take (length l - 1) l) in
     let c = eqb (getD l (length l - 1) 0) lineFeed in
     let s = eqb (length l) (lineLength (count (frameOf l))) in
-    let v = proper (frameOf l) in
+    let v = proper limit (frameOf l) in
     let left = and-left (d && c) (s && v) e in
     let right = and-right (d && c) (s && v) e in
     record {
@@ -113,9 +122,9 @@ line-is l e =
       values-proper = and-right s v right;
     }
 
-pub is-line : (l : List ℕ) → Parts l → isLine l ≡ true
+pub is-line : (limit : ℕ) (l : List ℕ) → Parts limit l → isLine limit l ≡ true
 unfolding isLine
-is-line l p =
+is-line limit l p =
     let feed = eq-eqb (getD l (length l - 1) 0) lineFeed (p .feed) in
     let size = eq-eqb (length l) (lineLength (count (frameOf l))) (p .size) in
     simp (p .digits, feed, size, p .values-proper)
@@ -153,26 +162,34 @@ zeros-are [] e = refl
 zeros-are (x ∷ xs) e =
     ap₂ (λ (n : ℕ) (s : List ℕ). n ∷ s) (eqb-true x 0 (and-left (eqb x 0) (allZero xs) e)) (zeros-are xs (and-right (eqb x 0) (allZero xs) e))
 
-pub all-zeros : (n : ℕ) → allZero (replicate n 0) ≡ true
-unfolding allZero
-all-zeros zero = refl
-all-zeros (suc n) = all-zeros n
-
 -- words whose rest is 0 are their first ones padded
-pub padded-words : (k : ℕ) (xs : List ℕ) → length xs ≡ capacity → k ≤ capacity → allZero (drop k xs) ≡ true → padded capacity (take k xs) ≡ xs
-padded-words k xs e h z =
+pub padded-words : (k n : ℕ) (xs : List ℕ) → length xs ≡ n → k ≤ n → allZero (drop k xs) ≡ true → padded n (take k xs) ≡ xs
+padded-words k n xs e h z =
     let size : length (take k xs) ≡ k = length-take-le k xs (omega arith) in
-    let rest : capacity - length (take k xs) ≡ length (drop k xs) = omega (arith, length-drop k xs, size) in
-    sym (padded-zeros capacity (take k xs) (omega arith))
+    let rest : n - length (take k xs) ≡ length (drop k xs) = omega (arith, length-drop k xs, size) in
+    sym (padded-zeros n (take k xs) (omega arith))
     ∙ ap (λ (n : ℕ). take k xs ++ replicate n 0) rest
     ∙ ap (λ (s : List ℕ). take k xs ++ s) (sym (zeros-are (drop k xs) z))
     ∙ take-append-drop k xs
 
--- numbers that fit do so together, zeros among them, and spell the same with zeros after them
-pub zeros-fit : (j : ℕ) → allFit (commands j) (replicate j 0) ≡ true
-unfolding allFit
-zeros-fit zero = refl
-zeros-fit (suc j) = zeros-fit j
+-- after a list that is padded stand zeros
+pub padded-clear : (n : ℕ) (l : List ℕ) → allZero (drop (length l) (padded n l)) ≡ true
+unfolding padded allZero
+padded-clear zero [] = refl
+padded-clear zero (c ∷ l) = refl
+padded-clear (suc n) [] = padded-clear n []
+padded-clear (suc n) (c ∷ l) = padded-clear n l
+
+-- numbers that fit do so together, and padded, and spell the same with others after them
+pub fit-padded : (n k : ℕ) (xs : List ℕ) → allFit (commands k) xs ≡ true → allFit (commands n) (padded n xs) ≡ true
+unfolding allFit padded
+fit-padded zero k xs e = refl
+fit-padded (suc n) k [] e = fit-padded n 0 [] refl
+fit-padded (suc n) zero (x ∷ xs) e = absurd (true≢false (sym e))
+fit-padded (suc n) (suc k) (x ∷ xs) e =
+    let t = ltb x (256 ^ commandWidth) in
+    and-both t (allFit (commands n) (padded n xs)) (and-left t (allFit (commands k) xs) e)
+    (fit-padded n k xs (and-right t (allFit (commands k) xs) e))
 
 pub fit-append : (k j : ℕ) (xs ys : List ℕ) → allFit (commands k) xs ≡ true → allFit (commands j) ys ≡ true → allFit (commands (k + j)) (xs ++ ys) ≡ true
 unfolding allFit
@@ -192,11 +209,11 @@ spell-more k xs r e =
 -- ---- the line of a frame
 
 module _ (f : Frame) (w : Written f) where
-  few : count f ≤ capacity
-  few = proper-count f (w .values-proper)
+  few : count f ≤ frameCapacity
+  few = proper-count capacity f (w .values-proper)
 
   front-fits : allFit (commands (count f)) (take (count f) (f .words)) ≡ true
-  front-fits = fit-front (count f) capacity (f .words) few (w .words-fit)
+  front-fits = fit-front (count f) frameCapacity (f .words) few (w .words-fit)
 
   header-size : length (spell widths (values f)) ≡ 2 * total widths
   header-size = length-spell widths (values f) (w .header-fits)
@@ -239,15 +256,16 @@ module _ (f : Frame) (w : Written f) where
   unfolding frameOf framed
   read-written =
       ap₂ framed line-values line-rest
-      ∙ ap (λ (ws : List ℕ). withValues (values f) (padded capacity ws))
+      ∙ ap (λ (ws : List ℕ). withValues (values f) (padded frameCapacity ws))
       (numbers-spell (commands (count f)) (take (count f) (f .words)) (lineFeed ∷ []) front-fits)
       ∙ ap (withValues (values f))
-      (padded-words (count f) (f .words) (fit-length (commands capacity) (f .words) (w .words-fit) ∙ length-replicate capacity commandWidth) few (w .clear))
+      (padded-words (count f) frameCapacity (f .words)
+      (fit-length (commands frameCapacity) (f .words) (w .words-fit) ∙ length-replicate frameCapacity commandWidth) few (w .clear))
 
-  -- and the line is one
-  line-parts : Parts (lineOf f)
+  -- and the line is one, under each limit that n and m are within
+  line-parts : (limit : ℕ) → f .n ≤ limit → f .m ≤ limit → Parts limit (lineOf f)
   unfolding digits-are
-  line-parts =
+  line-parts limit n m =
       let size : length (lineOf f) - 1 ≡ length digits-are = omega (arith, line-length, digits-size) in
       record {
         size = line-length ∙ ap (λ (g : Frame). lineLength (count g)) (sym read-written);
@@ -257,12 +275,12 @@ module _ (f : Frame) (w : Written f) where
             ∙ and-both (allDigits (spell widths (values f))) (allDigits (spell (commands (count f)) (f .words)))
             (all-spell widths (values f)) (all-spell (commands (count f)) (f .words));
         feed = ap₂ (λ (n : ℕ) (l : List ℕ). getD l n 0) size line-split ∙ getD-at digits-are lineFeed [] 0 (length digits-are) refl;
-        values-proper = ap proper read-written ∙ w .values-proper;
+        values-proper = ap (proper limit) read-written ∙ proper-within capacity f (w .values-proper) limit n m;
       }
 
 -- ---- the frame of a line
 
-module _ (l : List ℕ) (p : Parts l) where
+module _ (limit : ℕ) (l : List ℕ) (p : Parts limit l) where
   held : ℕ
   held = count (frameOf l)
 
@@ -325,71 +343,79 @@ module _ (l : List ℕ) (p : Parts l) where
   unfolding words-are
   words-size = length-numbers (commands held) command-digits ∙ length-replicate held commandWidth
 
-  most : held ≤ capacity
-  unfolding held
-  most = proper-count (frameOf l) (p .values-proper)
-
-  frame-words : frameOf l .words ≡ words-are ++ replicate (capacity - length words-are) 0
+  frame-words : frameOf l .words ≡ padded frameCapacity words-are
   unfolding frameOf framed words-are held command-digits
   frame-words =
-      ap (padded capacity)
+      ap (padded frameCapacity)
       (sym (numbers-take (commands (count (frameOf l))) (drop (2 * total widths) l) (2 * total (commands (count (frameOf l)))) (le-refl (2 * total (commands (count (frameOf l)))))))
-      ∙ sym (padded-zeros capacity words-are (omega (arith, words-size, most)))
 
-  -- writing what was read gives the line
-  written-read : lineOf (frameOf l) ≡ l
-  unfolding lineOf held words-are
-  written-read =
-      ap₂ (λ (s t : List ℕ). s ++ (t ++ lineFeed ∷ []))
-      (ap (spell widths) frame-values ∙ spell-numbers widths head-digits head-size head-spelled)
-      (ap (spell (commands held)) frame-words
-      ∙ spell-more held words-are (replicate (capacity - length words-are) 0) words-size
-      ∙ spell-numbers (commands held) command-digits command-size command-spelled)
-      ∙ sym (append-assoc head-digits command-digits (lineFeed ∷ []))
-      ∙ ap (λ (s : List ℕ). s ++ lineFeed ∷ []) (sym body-split)
-      ∙ sym body-feed
+  -- they fit
+  frame-header-fits : allFit widths (values (frameOf l)) ≡ true
+  frame-header-fits = ap (allFit widths) frame-values ∙ numbers-fit widths head-digits head-size head-spelled
 
-  -- what was read can be written
-  frame-written : Written (frameOf l)
-  unfolding held words-are
-  frame-written =
-      let room : held + (capacity - length words-are) ≡ capacity = omega (arith, words-size, most) in
-      record {
-        values-proper = p .values-proper;
-        clear =
-            ap (λ (ws : List ℕ). allZero (drop held ws)) frame-words
-            ∙ ap allZero (drop-at words-are (replicate (capacity - length words-are) 0) held words-size)
-            ∙ all-zeros (capacity - length words-are);
-        header-fits = ap (allFit widths) frame-values ∙ numbers-fit widths head-digits head-size head-spelled;
-        words-fit =
-            ap (allFit (commands capacity)) frame-words
-            ∙ ap (λ (n : ℕ). allFit (commands n) (words-are ++ replicate (capacity - length words-are) 0)) (sym room)
-            ∙ fit-append held (capacity - length words-are) words-are (replicate (capacity - length words-are) 0)
-            (numbers-fit (commands held) command-digits command-size command-spelled) (zeros-fit (capacity - length words-are));
-      }
+  frame-words-fit : allFit (commands frameCapacity) (frameOf l .words) ≡ true
+  unfolding words-are
+  frame-words-fit =
+      ap (allFit (commands frameCapacity)) frame-words
+      ∙ fit-padded frameCapacity held words-are (numbers-fit (commands held) command-digits command-size command-spelled)
+
+  -- under a limit that there is room for
+  module _ (small : limit ≤ capacity) where
+    most : held ≤ frameCapacity
+    unfolding held
+    most = omega (arith, proper-count limit (frameOf l) (p .values-proper))
+
+    words-then : frameOf l .words ≡ words-are ++ replicate (frameCapacity - length words-are) 0
+    words-then = frame-words ∙ sym (padded-zeros frameCapacity words-are (omega (arith, words-size, most)))
+
+    -- writing what was read gives the line
+    written-read : lineOf (frameOf l) ≡ l
+    unfolding lineOf held words-are
+    written-read =
+        ap₂ (λ (s t : List ℕ). s ++ (t ++ lineFeed ∷ []))
+        (ap (spell widths) frame-values ∙ spell-numbers widths head-digits head-size head-spelled)
+        (ap (spell (commands held)) words-then
+        ∙ spell-more held words-are (replicate (frameCapacity - length words-are) 0) words-size
+        ∙ spell-numbers (commands held) command-digits command-size command-spelled)
+        ∙ sym (append-assoc head-digits command-digits (lineFeed ∷ []))
+        ∙ ap (λ (s : List ℕ). s ++ lineFeed ∷ []) (sym body-split)
+        ∙ sym body-feed
+
+    -- what was read can be written
+    frame-written : Written (frameOf l)
+    unfolding held
+    frame-written =
+        record {
+          values-proper = proper-more limit (frameOf l) (p .values-proper) capacity small;
+          clear =
+              ap₂ (λ (n : ℕ) (ws : List ℕ). allZero (drop n ws)) (sym words-size) frame-words
+              ∙ padded-clear frameCapacity words-are;
+          header-fits = frame-header-fits;
+          words-fit = frame-words-fit;
+        }
 
 -- ---- both ways, for every kind
 
--- reading what was written gives the frame
+-- reading what was written gives the frame, under each limit that its counts are within
 pub frame-of-line : (f : Frame) → writable f ≡ true → frameOf (lineOf f) ≡ f
 frame-of-line f e = read-written f (writable-is f e)
 
-pub line-is-line : (f : Frame) → writable f ≡ true → isLine (lineOf f) ≡ true
-line-is-line f e = is-line (lineOf f) (line-parts f (writable-is f e))
+pub line-is-line : (limit : ℕ) (f : Frame) → writable f ≡ true → f .n ≤ limit → f .m ≤ limit → isLine limit (lineOf f) ≡ true
+line-is-line limit f e n m = is-line limit (lineOf f) (line-parts f (writable-is f e) limit n m)
 
--- writing what was read gives the line, byte for byte, and what was read can be written
-pub line-of-frame : (l : List ℕ) → isLine l ≡ true → lineOf (frameOf l) ≡ l
-line-of-frame l e = written-read l (line-is l e)
+-- writing what was read gives the line, byte for byte, and what was read can be written, under each limit that there is room for
+pub line-of-frame : (limit : ℕ) (l : List ℕ) → limit ≤ capacity → isLine limit l ≡ true → lineOf (frameOf l) ≡ l
+line-of-frame limit l small e = written-read limit l (line-is limit l e) small
 
-pub frame-is-writable : (l : List ℕ) → isLine l ≡ true → writable (frameOf l) ≡ true
-frame-is-writable l e = is-writable (frameOf l) (frame-written l (line-is l e))
+pub frame-is-writable : (limit : ℕ) (l : List ℕ) → limit ≤ capacity → isLine limit l ≡ true → writable (frameOf l) ≡ true
+frame-is-writable limit l small e = is-writable (frameOf l) (frame-written limit l (line-is limit l e) small)
 
 -- so a frame has one line, and a line at most one frame
 pub one-frame : (f g : Frame) → writable f ≡ true → writable g ≡ true → lineOf f ≡ lineOf g → f ≡ g
 one-frame f g p q e = sym (frame-of-line f p) ∙ ap frameOf e ∙ frame-of-line g q
 
-pub one-line : (l r : List ℕ) → isLine l ≡ true → isLine r ≡ true → frameOf l ≡ frameOf r → l ≡ r
-one-line l r p q e = sym (line-of-frame l p) ∙ ap lineOf e ∙ line-of-frame r q
+pub one-line : (limit : ℕ) (l r : List ℕ) → limit ≤ capacity → isLine limit l ≡ true → isLine limit r ≡ true → frameOf l ≡ frameOf r → l ≡ r
+one-line limit l r small p q e = sym (line-of-frame limit l small p) ∙ ap lineOf e ∙ line-of-frame limit r small q
 
 -- ---- lengths and counts
 
@@ -400,66 +426,76 @@ length-of-line f e = line-length f (writable-is f e)
 pub line-at-most : (f : Frame) → writable f ≡ true → length (lineOf f) ≤ longest
 line-at-most f e = line-longest f (writable-is f e)
 
--- what is known of a frame that was read or can be written
-pub writable-n : (f : Frame) → writable f ≡ true → f .n ≤ limit
-writable-n f e = proper-n f (writable-is f e .values-proper)
+-- what is known of a frame that can be written
+pub writable-n : (f : Frame) → writable f ≡ true → f .n ≤ capacity
+writable-n f e = proper-n capacity f (writable-is f e .values-proper)
 
-pub writable-m : (f : Frame) → writable f ≡ true → f .m ≤ limit
-writable-m f e = proper-m f (writable-is f e .values-proper)
+pub writable-m : (f : Frame) → writable f ≡ true → f .m ≤ capacity
+writable-m f e = proper-m capacity f (writable-is f e .values-proper)
 
 -- ---- what is read
 
-module _ (l : List ℕ) (kinds : ℕ) where
+module _ (limit : ℕ) (l : List ℕ) (kinds : ℕ) where
   -- found exactly if the line is one and its kind is taken, and then it is the line's frame
-  pub found-is : readingOf l kinds .found ≡ (isLine l && bit kinds (frameOf l .kind))
+  pub found-is : readingOf limit l kinds .found ≡ (isLine limit l && bit kinds (frameOf l .kind))
   unfolding readingOf
-  found-is = go (isLine l && bit kinds (frameOf l .kind))
+  found-is = go (isLine limit l && bit kinds (frameOf l .kind))
     where
       go : (b : Bool) → cond b (record { found = true; frame = frameOf l }) nothing .found ≡ b
       go true = refl
       go false = refl
 
-  pub reading-line : isLine l ≡ true → bit kinds (frameOf l .kind) ≡ true → readingOf l kinds ≡ record { found = true; frame = frameOf l }
+  pub reading-line : isLine limit l ≡ true → bit kinds (frameOf l .kind) ≡ true → readingOf limit l kinds ≡ record { found = true; frame = frameOf l }
   unfolding readingOf
   reading-line p q = rw (p, q)
 
-  pub reading-none : readingOf l kinds .found ≡ false → readingOf l kinds ≡ nothing
+  pub reading-none : readingOf limit l kinds .found ≡ false → readingOf limit l kinds ≡ nothing
   unfolding readingOf
-  reading-none e = go (isLine l && bit kinds (frameOf l .kind)) (sym found-is ∙ e)
+  reading-none e = go (isLine limit l && bit kinds (frameOf l .kind)) (sym found-is ∙ e)
     where
       go : (b : Bool) → b ≡ false → cond b (record { found = true; frame = frameOf l }) nothing ≡ nothing
       go true e = absurd (true≢false e)
       go false e = refl
 
-  module _ (e : readingOf l kinds .found ≡ true) where
-    pub found-line : isLine l ≡ true
-    found-line = and-left (isLine l) (bit kinds (frameOf l .kind)) (sym found-is ∙ e)
+  module _ (e : readingOf limit l kinds .found ≡ true) where
+    pub found-line : isLine limit l ≡ true
+    found-line = and-left (isLine limit l) (bit kinds (frameOf l .kind)) (sym found-is ∙ e)
 
     pub found-taken : bit kinds (frameOf l .kind) ≡ true
-    found-taken = and-right (isLine l) (bit kinds (frameOf l .kind)) (sym found-is ∙ e)
+    found-taken = and-right (isLine limit l) (bit kinds (frameOf l .kind)) (sym found-is ∙ e)
 
-    pub found-frame : readingOf l kinds .frame ≡ frameOf l
+    pub found-frame : readingOf limit l kinds .frame ≡ frameOf l
     found-frame = ap (λ (r : Reading). r .frame) (reading-line found-line found-taken)
 
-    pub found-writable : writable (readingOf l kinds .frame) ≡ true
-    found-writable = ap writable found-frame ∙ frame-is-writable l found-line
+    -- its values are proper and fit their widths, and its words fit
+    pub found-proper : proper limit (readingOf limit l kinds .frame) ≡ true
+    found-proper = ap (proper limit) found-frame ∙ line-is limit l found-line .values-proper
 
-    pub found-n : readingOf l kinds .frame .n ≤ limit
-    found-n = writable-n (readingOf l kinds .frame) found-writable
+    pub found-header-fits : allFit widths (values (readingOf limit l kinds .frame)) ≡ true
+    found-header-fits = ap (λ (f : Frame). allFit widths (values f)) found-frame ∙ frame-header-fits limit l (line-is limit l found-line)
 
-  -- what holds of each frame that can be written and of the blank one holds of what is read, found or not
-  read-frame : (P : Frame → Type 0) → ((f : Frame) → writable f ≡ true → P f) → P blank → P (readingOf l kinds .frame)
+    pub found-words-fit : allFit (commands frameCapacity) (readingOf limit l kinds .frame .words) ≡ true
+    found-words-fit = ap (λ (f : Frame). allFit (commands frameCapacity) (f .words)) found-frame ∙ frame-words-fit limit l (line-is limit l found-line)
+
+    pub found-writable : limit ≤ capacity → writable (readingOf limit l kinds .frame) ≡ true
+    found-writable small = ap writable found-frame ∙ frame-is-writable limit l small found-line
+
+    pub found-n : readingOf limit l kinds .frame .n ≤ limit
+    found-n = proper-n limit (readingOf limit l kinds .frame) found-proper
+
+  -- what holds of each proper frame and of the blank one holds of what is read, found or not
+  read-frame : (P : Frame → Type 0) → ((f : Frame) → proper limit f ≡ true → P f) → P blank → P (readingOf limit l kinds .frame)
   unfolding readingOf
-  read-frame P some none = go (isLine l) refl (bit kinds (frameOf l .kind))
+  read-frame P some none = go (isLine limit l) refl (bit kinds (frameOf l .kind))
     where
-      go : (b : Bool) → isLine l ≡ b → (d : Bool) → P (cond (b && d) (record { found = true; frame = frameOf l }) nothing .frame)
-      go true e true = some (frameOf l) (frame-is-writable l e)
+      go : (b : Bool) → isLine limit l ≡ b → (d : Bool) → P (cond (b && d) (record { found = true; frame = frameOf l }) nothing .frame)
+      go true e true = some (frameOf l) (line-is limit l e .values-proper)
       go true e false = none
       go false e d = none
 
-  -- so each of its lists has at most 32 commands
-  pub read-n : readingOf l kinds .frame .n ≤ limit
-  read-n = read-frame (λ f. f .n ≤ limit) writable-n (omega arith)
+  -- so each of its lists has at most as many commands as the limit says
+  pub read-n : readingOf limit l kinds .frame .n ≤ limit
+  read-n = read-frame (λ f. f .n ≤ limit) (proper-n limit) zero-le
 
-  pub read-m : readingOf l kinds .frame .m ≤ limit
-  read-m = read-frame (λ f. f .m ≤ limit) writable-m (omega arith)
+  pub read-m : readingOf limit l kinds .frame .m ≤ limit
+  read-m = read-frame (λ f. f .m ≤ limit) (proper-m limit) zero-le

@@ -12,9 +12,10 @@ use lib.Dec.{leb, ltb, eqb}
 use lib.ListN.{length, take, drop, replicate}
 use lib.Seq.{take-at}
 use Rattle.roster.specs.Mask.{bit}
+use Rattle.words.specs.Sizes.{capacity}
 use Rattle.frame.specs.Hex.{allFit}
 use Rattle.frame.specs.declared.Frame.{Frame}
-use Rattle.frame.specs.Layout.{longest, lineLength, count, capacity, withValues, header}
+use Rattle.frame.specs.Layout.{longest, lineLength, count, frameCapacity, withValues, header}
 use Rattle.frame.specs.Kinds.{uses, isKind, unusedZero, zeroUnless}
 use Rattle.frame.specs.Format.{proper, allZero, fits, lineOf, isLine, frameOf, writable, readingOf, hasRoom, writtenLength, written}
 use Rattle.frame.specs.FormatLaws.{frame-of-line, line-is-line, line-of-frame, frame-is-writable, length-of-line, line-at-most, reading-line}
@@ -34,35 +35,35 @@ module _ (f : Frame) (out : List ℕ) (room : hasRoom f (length out) ≡ true) w
   unfolding written
   written-front = rw room (take-at (lineOf f) _ (writtenLength f out) (sym written-length))
 
-  -- reading what was written gives the frame
-  pub read-what-was-written : (kinds : ℕ) → bit kinds (f .kind) ≡ true
-      → readingOf (take (writtenLength f out) (written f out)) kinds ≡ record { found = true; frame = f }
-  read-what-was-written kinds b =
-      rw (written-front, reading-line (lineOf f) kinds (line-is-line f can-write) (rw (frame-of-line f can-write) b), frame-of-line f can-write)
+  -- reading what was written gives the frame, under each limit that its counts are within
+  pub read-what-was-written : (limit kinds : ℕ) → f .n ≤ limit → f .m ≤ limit → bit kinds (f .kind) ≡ true
+      → readingOf limit (take (writtenLength f out) (written f out)) kinds ≡ record { found = true; frame = f }
+  read-what-was-written limit kinds n m b =
+      rw (written-front, reading-line limit (lineOf f) kinds (line-is-line limit f can-write n m) (rw (frame-of-line f can-write) b), frame-of-line f can-write)
 
--- writing what was read gives the line, byte for byte
-module _ (l : List ℕ) (is : isLine l ≡ true) (out : List ℕ) (room : length l ≤ length out) where
+-- writing what was read gives the line, byte for byte, under each limit that there is room for
+module _ (limit : ℕ) (l : List ℕ) (small : limit ≤ capacity) (is : isLine limit l ≡ true) (out : List ℕ) (room : length l ≤ length out) where
   line-length : length l ≡ lineLength (count (frameOf l))
-  line-length = ap length (sym (line-of-frame l is)) ∙ length-of-line (frameOf l) (frame-is-writable l is)
+  line-length = ap length (sym (line-of-frame limit l small is)) ∙ length-of-line (frameOf l) (frame-is-writable limit l small is)
 
   has-room : hasRoom (frameOf l) (length out) ≡ true
   unfolding hasRoom
-  has-room = rw (frame-is-writable l is) (le-leb (lineLength (count (frameOf l))) (length out) (omega (arith, line-length)))
+  has-room = rw (frame-is-writable limit l small is) (le-leb (lineLength (count (frameOf l))) (length out) (omega (arith, line-length)))
 
   pub write-what-was-read : written (frameOf l) out ≡ l ++ drop (length l) out
   unfolding written
-  write-what-was-read = rw (has-room, line-of-frame l is, ← line-length)
+  write-what-was-read = rw (has-room, line-of-frame limit l small is, ← line-length)
 
   pub length-of-what-was-read : writtenLength (frameOf l) out ≡ length l
   unfolding writtenLength
   length-of-what-was-read = rw has-room (sym line-length)
 
 -- a frame has one line: a line is this frame's exactly if it is the frame's line
-pub one-line-each : (f : Frame) → writable f ≡ true → (l : List ℕ) → (isLine l ≡ true) × (frameOf l ≡ f) → l ≡ lineOf f
-one-line-each f w l p = sym (line-of-frame l (p .0)) ∙ ap lineOf (p .1)
+pub one-line-each : (limit : ℕ) (f : Frame) → limit ≤ capacity → (l : List ℕ) → (isLine limit l ≡ true) × (frameOf l ≡ f) → l ≡ lineOf f
+one-line-each limit f small l p = sym (line-of-frame limit l small (p .0)) ∙ ap lineOf (p .1)
 
-pub its-line : (f : Frame) → writable f ≡ true → (isLine (lineOf f) ≡ true) × (frameOf (lineOf f) ≡ f)
-its-line f w = (line-is-line f w, frame-of-line f w)
+pub its-line : (limit : ℕ) (f : Frame) → writable f ≡ true → f .n ≤ limit → f .m ≤ limit → (isLine limit (lineOf f) ≡ true) × (frameOf (lineOf f) ≡ f)
+its-line limit f w n m = (line-is-line limit f w n m, frame-of-line f w)
 
 -- ---- the longest line
 
@@ -70,8 +71,9 @@ pub longest-room : (f : Frame) → writable f ≡ true → (room : ℕ) → long
 unfolding hasRoom
 longest-room f w room p = rw w (le-leb (lineLength (count f)) room (omega (arith, line-at-most f w, length-of-line f w)))
 
-pub line-within : (l : List ℕ) → isLine l ≡ true → length l ≤ longest
-line-within l is = subst (λ (x : List ℕ). length x ≤ longest) (line-of-frame l is) (line-at-most (frameOf l) (frame-is-writable l is))
+pub line-within : (limit : ℕ) (l : List ℕ) → limit ≤ capacity → isLine limit l ≡ true → length l ≤ longest
+line-within limit l small is =
+    subst (λ (x : List ℕ). length x ≤ longest) (line-of-frame limit l small is) (line-at-most (frameOf l) (frame-is-writable limit l small is))
 
 -- ---- the kinds
 
@@ -91,7 +93,7 @@ rows-whole = refl
 
 -- a frame of each kind with nothing but its kind, and the longest frame
 abbrev bare : ℕ → Frame
-bare k = withValues (k ∷ []) (replicate capacity 0)
+bare k = withValues (k ∷ []) (replicate frameCapacity 0)
 
 all-bare : ℕ → Bool
 all-bare zero = true
@@ -112,7 +114,7 @@ kind-has-frame k p q = bare-each 10 refl k p q
 
 -- a P1B with two full lists has the longest line
 pub longest-line : Frame
-longest-line = withValues (3 ∷ 0 ∷ 0 ∷ 0 ∷ 0 ∷ 0 ∷ 32 ∷ 32 ∷ []) (replicate capacity 0)
+longest-line = withValues (3 ∷ 0 ∷ 0 ∷ 0 ∷ 0 ∷ 0 ∷ capacity ∷ capacity ∷ []) (replicate frameCapacity 0)
 
 pub longest-attained : (writable longest-line ≡ true) × (length (lineOf longest-line) ≡ longest)
 unfolding longest-line writable proper isKind uses unusedZero zeroUnless allZero fits allFit

@@ -2,6 +2,7 @@
 use Prim.Native.Nat.{ℕ, _+_, _*_}
 use mathlib.Core.List.{List, [], _∷_, map}
 use lib.ListN.{getD, take, drop}
+use Rattle.words.specs.Sizes.{capacity}
 use Rattle.frame.specs.declared.Frame.{Frame}
 use Rattle.frame.specs.Hex.{total}
 
@@ -17,7 +18,7 @@ header =
     record { width = 1; value = λ f. f .sender } ∷
     record { width = 4; value = λ f. f .view .0 } ∷
     record { width = 4; value = λ f. f .ballot .0 } ∷
-    record { width = 4; value = λ f. f .proven .0 } ∷
+    record { width = 4; value = λ f. f .«proven_ballot» .0 } ∷
     record { width = 2; value = λ f. f .mask } ∷
     record { width = 1; value = λ f. f .n } ∷
     record { width = 1; value = λ f. f .m } ∷ []
@@ -26,12 +27,9 @@ header =
 abbrev pub commandWidth : ℕ
 commandWidth = 8
 
--- "A history holds at most 32 commands": the most commands of one list, and of a frame's two
-abbrev pub limit : ℕ
-limit = 32
-
-abbrev pub capacity : ℕ
-capacity = limit + limit
+-- the most commands of a frame: two full lists
+abbrev pub frameCapacity : ℕ
+frameCapacity = capacity + capacity
 
 -- the widths of the fields, and a frame's values of them
 abbrev pub widths : List ℕ
@@ -48,7 +46,7 @@ withValues h ws =
       sender = getD h 1 0;
       view = record { 0 = getD h 2 0 };
       ballot = record { 0 = getD h 3 0 };
-      proven = record { 0 = getD h 4 0 };
+      «proven_ballot» = record { 0 = getD h 4 0 };
       mask = getD h 5 0;
       n = getD h 6 0;
       m = getD h 7 0;
@@ -72,4 +70,4 @@ lineLength k = 2 * (total widths + commandWidth * k) + 1
 
 -- the longest line's length
 abbrev pub longest : ℕ
-longest = lineLength capacity
+longest = lineLength frameCapacity

@@ -10,7 +10,7 @@ use Rattle.frame.specs.declared.Heading.{Heading}
 use Rattle.frame.specs.declared.Reading.{Reading}
 use Rattle.roster.specs.Mask.{bit}
 use Rattle.frame.specs.Hex.{digit, isDigit, valueOf, allDigits, number, numbers, total}
-use Rattle.frame.specs.Layout.{limit, widths, withValues, count, lineLength}
+use Rattle.frame.specs.Layout.{widths, withValues, count, lineLength}
 use Rattle.frame.specs.Kinds.{uses, isKind, zeroUnless}
 use Rattle.frame.specs.Format.{frameOf, lineFeed, blank, nothing, readingOf, headWith, headOf}
 
@@ -43,8 +43,8 @@ pub record NumbersIn (ws l : List ℕ) (good : Bool) (xs : List ℕ) : Type 0 wh
   pub are : good ≡ true → xs ≡ numbers ws l
 
 -- whether a header's values are proper, as `proper` says of a frame
-unfoldable pub properHeader : List ℕ → Bool
-properHeader h =
+unfoldable pub properHeader : ℕ → List ℕ → Bool
+properHeader limit h =
     isKind (getD h 0 0) && ((leb (getD h 6 0) limit && leb (getD h 7 0) limit) && zeroUnless (getD uses (getD h 0 0) []) h)
 
 -- a header's values that fit their widths, the heading that they are, and that of no frame
@@ -58,31 +58,31 @@ abbrev pub noHeading : Heading
 noHeading = headWith false blank
 
 -- a line that is long enough, whose header's digits spell proper values
-pub record Headed (l : List ℕ) : Type 0 where
+pub record Headed (limit : ℕ) (l : List ℕ) : Type 0 where
   pub long : lineLength 0 ≤ length l
   pub spelled : allDigits (take (2 * total widths) l) ≡ true
-  pub proper : properHeader (numbers widths l) ≡ true
+  pub proper : properHeader limit (numbers widths l) ≡ true
 
--- and its counts
+-- the counts that a line's header spells
 pub record Counted (l : List ℕ) (n m : ℕ) : Type 0 where
   pub first : n ≡ getD (numbers widths l) 6 0
   pub second : m ≡ getD (numbers widths l) 7 0
 
 -- what reading a line's header finds: the heading that it spells, of a kind that is taken, or that there is no frame
-pub record Found (l : List ℕ) (kinds : ℕ) (h : Heading) : Type 0 where
-  pub headed : Headed l
+pub record Found (limit : ℕ) (l : List ℕ) (kinds : ℕ) (h : Heading) : Type 0 where
+  pub headed : Headed limit l
   pub heading : h ≡ headingOf (numbers widths l)
   pub taken : bit kinds (getD (numbers widths l) 0 0) ≡ true
 
-pub record Missing (l : List ℕ) (kinds : ℕ) (h : Heading) : Type 0 where
+pub record Missing (limit : ℕ) (l : List ℕ) (kinds : ℕ) (h : Heading) : Type 0 where
   pub heading : h ≡ noHeading
-  pub none : nothing ≡ readingOf l kinds
+  pub none : nothing ≡ readingOf limit l kinds
 
-pub record HeadIn (l : List ℕ) (kinds : ℕ) (h : Heading) : Type 0 where
-  pub found : h .found ≡ true → Found l kinds h
-  pub missing : h .found ≡ false → Missing l kinds h
+pub record HeadIn (limit : ℕ) (l : List ℕ) (kinds : ℕ) (h : Heading) : Type 0 where
+  pub found : h .found ≡ true → Found limit l kinds h
+  pub missing : h .found ≡ false → Missing limit l kinds h
 
--- what is left to test of such a line: the length, the line feed, and the digits of the commands
+-- what is left to test of a line whose header was read: the length, the line feed, and the digits of the commands
 unfoldable pub bodyGood : List ℕ → Bool
 bodyGood l =
     eqb (length l) (lineLength (count (frameOf l)))

@@ -1,8 +1,9 @@
 // Frames: reading a line and writing one. A line is the digits of the header's fields and of the commands, and a line feed.
 ghost use mathlib.Core.Path.{_≡_};
-ghost use Prim.Native.Nat.{_+_, _*_, _≤_, _<_};
+ghost use Prim.Native.Nat.{_+_, _*_, _≤_, _<_, min};
 ghost use mathlib.Core.List.{[]};
 ghost use lib.ListN.{length, getD, replicate};
+ghost use Rattle.words.specs.Sizes as sizes;
 ghost use Rattle.frame.specs.Hex as hex;
 ghost use Rattle.frame.specs.Layout as layout;
 ghost use Rattle.frame.specs.Kinds as kinds;
@@ -10,6 +11,9 @@ ghost use Rattle.frame.specs.Format as format;
 ghost use Rattle.frame.specs.Leaves as leaves;
 use roster::Ballot;
 use roster::View;
+
+// The most commands of a frame: two full lists.
+pub const CAPACITY: usize = 2 * words::CAPACITY;
 
 // The longest line, with its line feed.
 pub const LONGEST: usize = 1061;
@@ -20,11 +24,11 @@ pub struct Frame {
     pub sender: u8,
     pub view: View,
     pub ballot: Ballot,
-    pub proven: Ballot,
+    pub proven_ballot: Ballot,
     pub mask: u16,
     pub n: u8,
     pub m: u8,
-    pub words: [u64; 64],
+    pub words: [u64; CAPACITY],
 }
 
 // A frame's fields but for its commands, and whether there is a frame; where there is none all are 0.
@@ -34,7 +38,7 @@ pub struct Heading {
     pub sender: u8,
     pub view: View,
     pub ballot: Ballot,
-    pub proven: Ballot,
+    pub proven_ballot: Ballot,
     pub mask: u16,
     pub n: u8,
     pub m: u8,
@@ -52,14 +56,14 @@ struct Spelled {
     value: u64,
 }
 
-// How many characters the header has, the shortest line, and a command; the most commands of a list.
+// How many characters the header has, the shortest line, and a command; the most commands of one list.
 const HEADER: usize = 36;
 
 const SHORTEST: usize = 37;
 
 const COMMAND: usize = 16;
 
-const LIMIT: u64 = 32;
+const LIST: u8 = words::CAPACITY as u8;
 
 // The line feed.
 const FEED: u8 = 10;
@@ -183,16 +187,17 @@ fn unused_zero(kind: usize, head: &[u64]) -> bool
 }
 
 // Whether a header's values are proper: the kind, the counts, and the fields that the kind doesn't use.
-fn proper(head: &[u64]) -> bool
+fn proper(limit: u8, head: &[u64]) -> bool
     requires { ⌜ length (now head) ≡ 8 ⌝ }
-    ensures { λ r. ⌜ r ≡ leaves.properHeader (now (head .entry)) ⌝ }
+    ensures { λ r. ⌜ r ≡ leaves.properHeader limit (now (head .entry)) ⌝ }
 {
     let kind = head[0];
     let known = (1 <= kind) & (kind < 11);
     if !known {
         return false;
     }
-    let few = (head[6] <= LIMIT) & (head[7] <= LIMIT);
+    let most = limit as u64;
+    let few = (head[6] <= most) & (head[7] <= most);
     if !few {
         return false;
     }
@@ -276,7 +281,7 @@ fn no_heading() -> Heading
         sender: 0,
         view: View(0),
         ballot: Ballot(0),
-        proven: Ballot(0),
+        proven_ballot: Ballot(0),
         mask: 0,
         n: 0,
         m: 0,
@@ -294,7 +299,7 @@ fn heading_of(head: [u64; 8]) -> Heading
         sender: head[1] as u8,
         view: View(head[2] as u32),
         ballot: Ballot(head[3] as u32),
-        proven: Ballot(head[4] as u32),
+        proven_ballot: Ballot(head[4] as u32),
         mask: head[5] as u16,
         n: head[6] as u8,
         m: head[7] as u8,
@@ -302,9 +307,9 @@ fn heading_of(head: [u64; 8]) -> Heading
 }
 
 // The heading that a line's header spells, if it is proper and the kind is one of the kinds.
-fn read_head(values: &[u8; 256], line: &[u8], kinds: u16) -> Heading
+fn read_head(values: &[u8; 256], limit: u8, line: &[u8], kinds: u16) -> Heading
     requires { ⌜ now values ≡ leaves.values ⌝ }
-    ensures { λ h. ⌜ leaves.HeadIn (now (line .entry)) kinds h ⌝ }
+    ensures { λ h. ⌜ leaves.HeadIn limit (now (line .entry)) kinds h ⌝ }
 {
     if line.len() < SHORTEST {
         return no_heading();
@@ -314,7 +319,7 @@ fn read_head(values: &[u8; 256], line: &[u8], kinds: u16) -> Heading
     if !spelled {
         return no_heading();
     }
-    let fine = proper(&head);
+    let fine = proper(limit, &head);
     if !fine {
         return no_heading();
     }
@@ -327,7 +332,7 @@ fn read_head(values: &[u8; 256], line: &[u8], kinds: u16) -> Heading
 
 // Whether the rest of a line whose header was read is right, and the commands into words that are 0.
 fn read_body(values: &[u8; 256], line: &[u8], n: u8, m: u8, words: &mut [u64]) -> bool
-    requires { ⌜ (now values ≡ leaves.values) × leaves.Headed (now line) × leaves.Counted (now line) n m × (now words ≡ replicate 64 0) ⌝ }
+    requires { ⌜ (now values ≡ leaves.values) × leaves.Counted (now line) n m × (n + m ≤ layout.frameCapacity) × (now words ≡ replicate layout.frameCapacity 0) ⌝ }
     ensures { λ r. ⌜ leaves.BodyIn (now (line .entry)) r (now (words .exit)) ⌝ }
 {
     let count = n as usize + m as usize;
@@ -341,13 +346,21 @@ fn read_body(values: &[u8; 256], line: &[u8], n: u8, m: u8, words: &mut [u64]) -
     read_words(values, &line[HEADER..end], &mut words[..count])
 }
 
-// Reads a line of one of the kinds (kind k is bit k) into a heading and lent words: the n commands, then the m, then zeros.
-pub fn read_into(line: &[u8], kinds: u16, words: &mut [u64; 64]) -> Heading
-    ensures { λ h. ⌜ format.readingWith h (now (words .exit)) ≡ format.readingOf (now (line .entry)) kinds ⌝ }
+// A limit, or the most commands that a list has room for where the limit is more.
+fn within(limit: u8) -> u8
+    ensures { λ r. ⌜ r ≡ min limit sizes.capacity ⌝ }
 {
-    *words = [0u64; 64];
+    if limit <= LIST { limit } else { LIST }
+}
+
+// Reads a line of one of the kinds (kind k is bit k), with lists of at most `limit` commands, into a heading and lent words: the n commands, then
+// the m, then zeros. No list has more than 32 commands, whatever the limit.
+pub fn read_into(limit: u8, line: &[u8], kinds: u16, words: &mut [u64; CAPACITY]) -> Heading
+    ensures { λ h. ⌜ format.readingWith h (now (words .exit)) ≡ format.readingOf (min limit sizes.capacity) (now (line .entry)) kinds ⌝ }
+{
+    *words = [0u64; CAPACITY];
     let values = &VALUES;
-    let h = read_head(values, line, kinds);
+    let h = read_head(values, within(limit), line, kinds);
     if !h.found {
         return h;
     }
@@ -355,21 +368,17 @@ pub fn read_into(line: &[u8], kinds: u16, words: &mut [u64; 64]) -> Heading
     if good {
         return h;
     }
-    *words = [0u64; 64];
+    *words = [0u64; CAPACITY];
     no_heading()
 }
 
 // Reads a line of one of the kinds that has no commands.
 pub fn read_bare(line: &[u8], kinds: u16) -> Heading
-    ensures { λ h. ⌜ format.readingWith h (replicate 64 0) ≡ format.bareReading (now (line .entry)) kinds ⌝ }
+    ensures { λ h. ⌜ format.readingWith h (replicate layout.frameCapacity 0) ≡ format.readingOf 0 (now (line .entry)) kinds ⌝ }
 {
-    let h = read_head(&VALUES, line, kinds);
+    let h = read_head(&VALUES, 0, line, kinds);
     if !h.found {
         return h;
-    }
-    let bare = (h.n == 0) & (h.m == 0);
-    if !bare {
-        return no_heading();
     }
     if line.len() != SHORTEST {
         return no_heading();
@@ -380,15 +389,15 @@ pub fn read_bare(line: &[u8], kinds: u16) -> Heading
     h
 }
 
-// The frame of a line, if these characters are a line, of one of the kinds (kind k is bit k).
-pub fn read(line: &[u8], kinds: u16) -> Reading
-    ensures { λ r. ⌜ r ≡ format.readingOf (now (line .entry)) kinds ⌝ }
+// The frame of a line, if these characters are a line, of one of the kinds (kind k is bit k), with lists of at most `limit` commands.
+pub fn read(limit: u8, line: &[u8], kinds: u16) -> Reading
+    ensures { λ r. ⌜ r ≡ format.readingOf (min limit sizes.capacity) (now (line .entry)) kinds ⌝ }
 {
-    let mut words = [0u64; 64];
-    let h = read_into(line, kinds, &mut words);
+    let mut words = [0u64; CAPACITY];
+    let h = read_into(limit, line, kinds, &mut words);
     let view = h.view;
     let ballot = h.ballot;
-    let proven = h.proven;
+    let proven_ballot = h.proven_ballot;
     Reading {
         found: h.found,
         frame: Frame {
@@ -396,7 +405,7 @@ pub fn read(line: &[u8], kinds: u16) -> Reading
             sender: h.sender,
             view,
             ballot,
-            proven,
+            proven_ballot,
             mask: h.mask,
             n: h.n,
             m: h.m,
@@ -419,12 +428,12 @@ pub fn write_from<'a>(h: Heading, g: &'a [u64], k: &'a [u64], out: &mut [u8]) ->
         h.sender as u64,
         h.view.0 as u64,
         h.ballot.0 as u64,
-        h.proven.0 as u64,
+        h.proven_ballot.0 as u64,
         h.mask as u64,
         h.n as u64,
         h.m as u64,
     ];
-    let fine = proper(&head);
+    let fine = proper(LIST, &head);
     if !fine {
         return 0;
     }
@@ -457,14 +466,14 @@ pub fn write(frame: Frame, out: &mut [u8]) -> usize
     }
     let view = frame.view;
     let ballot = frame.ballot;
-    let proven = frame.proven;
+    let proven_ballot = frame.proven_ballot;
     let h = Heading {
         found: true,
         kind: frame.kind,
         sender: frame.sender,
         view,
         ballot,
-        proven,
+        proven_ballot,
         mask: frame.mask,
         n: frame.n,
         m: frame.m,

@@ -17,7 +17,7 @@ flatWith found f =
       mask = f .mask;
       view = f .view .0;
       ballot = f .ballot .0;
-      proven = f .proven .0;
+      «proven_ballot» = f .«proven_ballot» .0;
       words = f .words;
     }
 
@@ -33,7 +33,7 @@ framed f =
       sender = f .sender;
       view = record { 0 = f .view };
       ballot = record { 0 = f .ballot };
-      proven = record { 0 = f .proven };
+      «proven_ballot» = record { 0 = f .«proven_ballot» };
       mask = f .mask;
       n = f .n;
       m = f .m;

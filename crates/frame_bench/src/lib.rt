@@ -1,5 +1,6 @@
 // What the benchmark calls from C: `frame::read` and `frame::write` over plain values. It is linked into the benchmark alone.
 ghost use mathlib.Core.Path.{_≡_};
+ghost use Rattle.words.specs.Sizes.{limit};
 ghost use Rattle.frame.specs.Format.{readingOf, writtenLength, written};
 ghost use Rattle.frame_bench.specs.Flat.{flatOf, flatWith, framed};
 use frame::Frame;
@@ -17,8 +18,8 @@ pub struct Flat {
     pub mask: u16,
     pub view: u32,
     pub ballot: u32,
-    pub proven: u32,
-    pub words: [u64; 64],
+    pub proven_ballot: u32,
+    pub words: [u64; frame::CAPACITY],
 }
 
 // A frame, flat, with the number that says whether there is one.
@@ -35,7 +36,7 @@ fn flattened(found: u8, f: Frame) -> Flat
         mask: f.mask,
         view: f.view.0,
         ballot: f.ballot.0,
-        proven: f.proven.0,
+        proven_ballot: f.proven_ballot.0,
         words,
     }
 }
@@ -43,9 +44,9 @@ fn flattened(found: u8, f: Frame) -> Flat
 // The frame of a line.
 #[no_mangle]
 pub extern "C" fn frame_bench_read(line: &[u8], kinds: u16) -> Flat
-    ensures { λ r. ⌜ r ≡ flatOf (readingOf (now (line .entry)) kinds) ⌝ }
+    ensures { λ r. ⌜ r ≡ flatOf (readingOf limit (now (line .entry)) kinds) ⌝ }
 {
-    let r = frame::read(line, kinds);
+    let r = frame::read(words::LIMIT, line, kinds);
     let found = r.found;
     let f = r.frame;
     if found {
@@ -66,7 +67,7 @@ pub extern "C" fn frame_bench_write(flat: Flat, out: &mut [u8]) -> usize
         sender: flat.sender,
         view: View(flat.view),
         ballot: Ballot(flat.ballot),
-        proven: Ballot(flat.proven),
+        proven_ballot: Ballot(flat.proven_ballot),
         mask: flat.mask,
         n: flat.n,
         m: flat.m,

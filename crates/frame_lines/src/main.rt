@@ -32,7 +32,7 @@ fn starts(a: &[u8], b: &[u8]) -> bool {
 // Writes whether a line is read and, where it is, whether writing gives it back.
 fn show(name: &[u8], line: &[u8], kinds: u16) {
     put(name);
-    let reading = frame::read(line, kinds);
+    let reading = frame::read(words::LIMIT, line, kinds);
     let found = reading.found;
     if !found {
         put(b": refused\n");

@@ -4,21 +4,21 @@ use Prim.Native.Nat.{ℕ}
 use lib.ListN.{length}
 use Rattle.roster.specs.declared.View.{View}
 use Rattle.roster.specs.declared.Ballot.{Ballot}
-use Rattle.history.specs.Words.{padded}
+use Rattle.words.specs.Words.{padded}
 use Rattle.frame.specs.declared.Frame.{Frame}
-use Rattle.frame.specs.Layout.{capacity}
+use Rattle.frame.specs.Layout.{frameCapacity}
 
 -- a frame from `own` with two lists of commands
 abbrev pub message : ℕ → ℕ → View → Ballot → Ballot → ℕ → List ℕ → List ℕ → Frame
-message kind own view ballot proven mask h k =
+message kind own view ballot provenBallot mask h k =
     record {
       kind = kind;
       sender = own;
       view = view;
       ballot = ballot;
-      proven = proven;
+      «proven_ballot» = provenBallot;
       mask = mask;
       n = length h;
       m = length k;
-      words = padded capacity (h ++ k);
+      words = padded frameCapacity (h ++ k);
     }

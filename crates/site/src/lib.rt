@@ -1,11 +1,11 @@
 // A site: whether its roster, own number and lent buffer will do; the view-change record; and making and handing over the frame that it sends.
 ghost use mathlib.Core.Path.{_≡_};
 ghost use lib.ListN.{take};
+ghost use Rattle.words.specs.Sizes.{capacity};
 ghost use Rattle.site.specs.Site as spec;
 ghost use Rattle.site.specs.Reply as reply;
 ghost use Rattle.site.specs.Message as message;
 use frame::Heading;
-use history::History;
 use roster::Ballot;
 use roster::Roster;
 use roster::View;
@@ -51,33 +51,34 @@ pub fn seated(r: Roster, own: u8, room: usize) -> bool
     r.valid() & ((own < r.n) & (frame::LONGEST <= room))
 }
 
-// Writes the frame of these values at the front of the buffer, if it is to be sent, and answers the length of its line; 0 if not.
+// Writes the frame of these values, its lists cut to what there is room for, at the front of the buffer, if it is to be sent, and answers the length
+// of its line; 0 if not.
 pub fn send<'a>(
     sent: bool,
     kind: u8,
     own: u8,
     view: View,
     ballot: Ballot,
-    proven: Ballot,
+    proven_ballot: Ballot,
     mask: u16,
     g: &'a [u64],
     h: &'a [u64],
     out: &mut [u8],
 ) -> usize
-    ensures { λ k. ⌜ reply.Handed (reply.sendsIf sent (message.message kind own view ballot proven mask (take 32 (now (g .entry))) (take 32 (now (h .entry))))) k (now (out .entry)) (now (out .exit)) ⌝ }
+    ensures { λ k. ⌜ reply.Handed (reply.sendsIf sent (message.message kind own view ballot «proven_ballot» mask (take capacity (now (g .entry))) (take capacity (now (h .entry))))) k (now (out .entry)) (now (out .exit)) ⌝ }
 {
     if !sent {
         return 0;
     }
-    let one = history::first(g, History::LIMIT);
-    let two = history::first(h, History::LIMIT);
+    let one = words::first(g, words::CAPACITY);
+    let two = words::first(h, words::CAPACITY);
     let heading = Heading {
         found: true,
         kind,
         sender: own,
         view,
         ballot,
-        proven,
+        proven_ballot,
         mask,
         n: one.len() as u8,
         m: two.len() as u8,

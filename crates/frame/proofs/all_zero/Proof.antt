@@ -1,4 +1,5 @@
 -- `frame::all_zero` meets its contract: the loop keeps that the answer for the whole slice is the answer for what is left of it.
+-- Assumes nothing.
 use Prim.Native.Nat.{_≤_, _-_}
 use native.Mathlib.Omega.{arith}
 use mathlib.Core.Path.{_≡_, sym, refl, _∙_}

@@ -1,4 +1,5 @@
 -- `frame::heading_of` meets its contract: each value fits its width, so that no cast changes it.
+-- Assumes nothing.
 use lib.Dec.{lit<}
 use borrow.Author.Needs.{needs}
 use Rattle.frame.proofs.heading_of.Statement.{statement}

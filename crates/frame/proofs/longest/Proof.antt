@@ -1,4 +1,5 @@
 -- `frame::longest` meets its contract: the layout's longest line is computed, and is the constant.
+-- Assumes nothing.
 use mathlib.Core.Path.{refl}
 use Rattle.frame.specs.Hex.{total}
 use Rattle.frame.proofs.longest.Statement.{statement}

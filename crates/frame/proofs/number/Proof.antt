@@ -1,4 +1,5 @@
 -- `frame::number` meets its contract: the loop keeps that the digits' test and the number go on from the byte it is at.
+-- Assumes nothing.
 use Rattle.frame.proofs.Turns.{Spelling, fine-below, spelling-start, spelling-stop, spelling-turn, spelling-end, room}
 use borrow.Author.Tests.{not-true, not-false}
 use native.Mathlib.Omega.{arith}

@@ -1,4 +1,5 @@
 -- `frame::read_header` meets its contract: the loop keeps that the digits' test and the numbers go on from the field it is at.
+-- Assumes nothing.
 use Prim.Native.Nat.{_-_}
 use native.Mathlib.Omega.{arith}
 use mathlib.Core.Path.{refl}

@@ -1,4 +1,5 @@
 -- `frame::read_words` meets its contract: the loop keeps that the digits' test and the numbers go on from the command it is at.
+-- Assumes nothing.
 use Prim.Native.Nat.{_*_, _+_, _-_}
 use native.Mathlib.Omega.{arith}
 use native.Mathlib.Nat.{le-refl}

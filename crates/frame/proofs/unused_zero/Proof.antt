@@ -1,4 +1,5 @@
 -- `frame::unused_zero` meets its contract: the loop keeps that the answer for the whole row is the answer for what is left of it.
+-- Assumes nothing.
 use Rattle.frame.proofs.Turns.{row-length, unused-stop, unused-more, unused-end}
 use Rattle.frame.specs.Kinds.{uses, zeroUnless}
 use lib.ListN.{getD, drop}

@@ -1,4 +1,5 @@
 -- `frame::write` meets its contract: the words after the commands are 0, so that the frame is that of its heading and its two lists, which `write_from` writes.
+-- Assumes nothing.
 use Rattle.frame.proofs.Frames.{too-many, not-clear, parts-written}
 use lib.Seq.{length-take-le}
 use borrow.Author.Tests.{not-true, not-false}

@@ -1,4 +1,5 @@
 -- `frame::write_from` meets its contract: its tests are those of the contract, and what it writes is the header, the two lists and the line feed.
+-- Assumes nothing.
 use Rattle.frame.proofs.Frames.{Sized, lists-short, not-listed, from-not-proper, too-small, header-kept, first-room, first-kept, second-room, both-kept, all-written}
 use Rattle.frame.specs.Leaves.{characters}
 use Rattle.frame.specs.Format.{listed}
@@ -20,7 +21,7 @@ sized c =
       sender = omega arith;
       view = omega arith;
       ballot = omega arith;
-      proven = omega arith;
+      «proven_ballot» = omega arith;
       mask = omega arith;
       n = omega arith;
       m = omega arith;

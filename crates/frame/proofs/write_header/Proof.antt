@@ -1,4 +1,5 @@
 -- `frame::write_header` meets its contract: the loop keeps that what is written, and then the digits of the fields from k on, are the goal.
+-- Assumes nothing.
 use Prim.Native.Nat.{_-_}
 use native.Mathlib.Omega.{arith}
 use mathlib.Core.Path.{refl, sym, _∙_}

@@ -1,4 +1,5 @@
 -- `frame::write_number` meets its contract: the loop keeps that the digits of what is left of the number, and then those written, are the goal.
+-- Assumes nothing.
 use Rattle.frame.proofs.Turns.{Putting, putting-start, putting-turn, putting-end}
 use Rattle.frame.proofs.Entries.{character-at, characters-length}
 use Rattle.frame.specs.Hex.{digitsOf}

@@ -1,4 +1,5 @@
 -- `frame::write_words` meets its contract: the loop keeps that what is written, and then the digits of the commands from k on, are the goal.
+-- Assumes nothing.
 use Prim.Native.Nat.{_*_, _+_, _-_}
 use native.Mathlib.Omega.{arith}
 use mathlib.Core.Path.{sym, ap, _∙_}

@@ -1,4 +1,5 @@
 -- `frame_lines::find` is safe, ends and answers a place of the table: the loop keeps that i is one, and not before the start.
+-- Assumes nothing.
 use Prim.Native.Nat.{_≤_, _-_}
 use borrow.Author.Needs.{needs}
 use lib.ListN.{length}

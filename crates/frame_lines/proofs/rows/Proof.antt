@@ -1,4 +1,5 @@
 -- `frame_lines::rows` is safe and ends: the two places that it finds are in the table, and each turn starts after the last row.
+-- Assumes nothing.
 use Prim.Native.Nat.{_≤_, _+_, _-_}
 use borrow.Author.Needs.{needs}
 use lib.ListN.{length}

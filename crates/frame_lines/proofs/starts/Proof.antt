@@ -1,4 +1,5 @@
 -- `frame_lines::starts` is safe and ends: the loop keeps that i is within b.
+-- Assumes nothing.
 use Prim.Native.Nat.{_≤_, _-_}
 use borrow.Author.Needs.{needs}
 use lib.ListN.{length}

@@ -1,4 +1,5 @@
 -- `site::send` meets its contract: what is written of the heading and the two lists that were cut is what is written of the message.
+-- Assumes nothing.
 use Rattle.site.proofs.Frames.{cut-fits, message-sent}
 use borrow.Author.Tests.{not-true, not-false}
 use mathlib.Core.Path.{refl}
