@@ -26,9 +26,10 @@ GATE = ROOT / 'target' / 'must-fail'
 PAGE = ROOT / 'docs' / 'WRONG-PROGRAMS.md'
 FOLDERS = ('must-fail', 'wrong')
 PARTS = ('src', 'specs', 'proofs')
-# what antt says where an edit has changed which facts a function needs, or the shape of what a proof takes apart, so that the proof no longer fits
-UNFIT = re.compile(r'that can be named from here|has\s+no\s+field|is for an impossible case|is not in scope|more patterns than'
-                   r'|expected type `tie\.Need-[^`]*`, but this has\s+type `tie\.Need-')
+# what antt says where a proof no longer fits, since an edit has changed the shape of what it takes apart or taken a fact away: what it names is gone
+GONE = re.compile(r'that can be named from here|has\s+no\s+field|is for an impossible case|is not in scope|more patterns than')
+# and where the edit has added a fact, so that only the list of facts no longer fits
+SHIFTED = re.compile(r'expected type `tie\.Need-[^`]*`, but this has\s+type `tie\.Need-')
 # an error with its place and the lines that explain it
 ERROR = re.compile(r'^(\S+?):\d+:\d+: error: (.*(?:\n  .*){0,2})', re.M)
 
@@ -128,10 +129,17 @@ def errors(said):
             for path, message in ERROR.findall(said) if 'was not admitted' not in message.split('\n')[0]]
 
 
+def unfit(messages):
+    """Of the errors in one proof file, one which shows that the proof no longer fits. A name that is gone shows it wherever it stands: the facts are
+    numbered, and one that is numbered anew may look wrong before another is missed."""
+    if SHIFTED.search(messages[0]):
+        return messages[0]
+    return next((m for m in messages if GONE.search(m)), None)
+
+
 def refusal(said):
-    """Where the prover refuses first: the function, or the file of definitions or laws, with the fact or declaration. And what shows that the proof
-    only no longer fits, if anything: an error of that kind in the file of the first one, whichever comes first, since facts that are numbered anew
-    may look wrong before one is missed."""
+    """Where the prover refuses first: the function, or the file of definitions or laws, with the fact or declaration. And the error which shows that
+    the proof only no longer fits, if there is one."""
     alone = re.search(r"^fn \w+::(\S+): no proof: .*`search` does not close `([^`]+)`", said, re.M)
     if alone:
         return '%s, %s' % (alone.group(1).replace('::', '/'), alone.group(2)), None
@@ -141,18 +149,18 @@ def refusal(said):
     path, message = found[0]
     named = re.match(r'`([^`]+)`', message)
     place = re.sub(r'^proofs/(.*)/Proof\.antt$', r'\1', path) + (', ' + named.group(1) if named else '')
-    return place, next((m for p, m in found if p == path and UNFIT.search(m)), None)
+    return place, unfit([m for p, m in found if p == path])
 
 
 def judged(name, status, said, how):
     """What came of an edit, by the prover's exit status and what it said: its place of refusal, or None, and a line that says it."""
-    place, unfit = refusal(said)
+    place, misfit = refusal(said)
     if status == 0:
         return None, '%s: NOT REFUSED (%s)' % (name, how)
     if status != 1 or '\nlogic=not-proved' not in said or not place:
         return None, '%s: BAD EDIT: no fact was refused' % name
-    if unfit:
-        return None, '%s: UNFIT: only the proof file no longer fits: %s' % (name, unfit[:150])
+    if misfit:
+        return None, '%s: UNFIT: the proof file no longer fits: %s' % (name, misfit[:150])
     return place, '%s: refused at %s (%s)' % (name, place, how)
 
 
