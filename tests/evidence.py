@@ -6,7 +6,7 @@ docs/TRACE.md   each link `[`NAME`](FILE)` names something that FILE declares; e
 docs/TRUST.md   the table of definitions is what the contracts of the exported functions and the claim of agreement reach, with its line counts.
 README.md       the map of crates has a row for each line of crates.txt.
 All pages       a law that is named in backticks is declared somewhere.
-All files       each opens with a comment that says what it is for.
+All files       each opens with a comment that says what it is for; an edit has one name in must-fail/ and wrong/, and changes no proof.
 
 `evidence.py --trust` prints the table of docs/TRUST.md."""
 import re
@@ -300,9 +300,19 @@ def openings():
     for path in sources('*/specs/**/*.antt') + sources('*/proofs/**/*.antt') + sources('*/src/*.rt'):
         if not re.match(r'(--|//) \S', lines_of(path)[0]):
             faults.append('%s does not open with what it is for' % shown(path))
-    for path in sources('*/must-fail/*.edit'):
+    return faults
+
+
+def edits():
+    """The wrong programs: what each says of itself, and that it is told from all others and is an edit of code or definitions."""
+    faults = []
+    for path in sources('*/must-fail/*.edit') + sources('*/wrong/*.edit'):
         if not lines_of(path)[0].startswith('# '):
             faults.append('%s does not say which wrong program it is' % shown(path))
+        if any(line.startswith('file: proofs/') for line in lines_of(path)):
+            faults.append('%s changes a proof, which shows nothing' % shown(path))
+        if path.parent.name == 'wrong' and (path.parent.parent / 'must-fail' / path.name).exists():
+            faults.append('%s is in must-fail/ too' % shown(path))
     return faults
 
 
@@ -310,7 +320,7 @@ def main():
     if '--trust' in sys.argv:
         print('\n'.join(trust_table()))
         return
-    faults = trace() + trust() + readme() + laws() + openings()
+    faults = trace() + trust() + readme() + laws() + openings() + edits()
     for fault in faults:
         print(fault)
     print('evidence: %s' % ('%d faults' % len(faults) if faults else 'the pages say what is there'))

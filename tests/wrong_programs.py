@@ -1,13 +1,15 @@
 #!/usr/bin/env python3
-"""wrong_programs.py [CRATE[/LABEL]..]: tries the wrong programs, each an edit crates/CRATE/must-fail/LABEL.edit that the prover must refuse.
+"""Holds the wrong programs to be refused: edits of a crate, crates/CRATE/must-fail/LABEL.edit and crates/CRATE/wrong/LABEL.edit.
 
-`rt ci` proves the whole crate anew for each edit. Here an edited crate is checked over a copy of what the right crate's check left
-(`rt dev`), so that only what the edit changes is checked. The right crate is checked first, in this run, and must be proved.
+`rt ci` proves the whole edited crate from nothing for each edit of must-fail/; of these its log is read. Each edit of wrong/ is tried here, over a
+copy of what the right crate's check left (`rt dev`), so that only what the edit changes is checked. The right crate is checked first, in this run,
+and must be proved. An edit of must-fail/ is tried so too where it is named, or where no log of `rt ci` is newer than the edit and its crates.
+
 Beyond what `rt ci` asks, the first error must be a fact that no longer holds: an edit that only makes a proof file unfit for the code, or
-the code unfit for the compiler, shows nothing and fails. docs/WRONG-PROGRAMS.md must say of each edit what it stands for and where it is refused;
-`--write`, with no crate named, writes that page anew.
+the code unfit for the compiler, shows nothing and fails. docs/WRONG-PROGRAMS.md must say of each edit what it stands for and where it is refused.
 
-Run after `rt check`; the logs stay in target/wrong-programs/CRATE/LABEL.log. The last line is `N refused, M failed`."""
+Run after `rt ci` or `rt check`; the logs stay in target/wrong-programs/CRATE/LABEL.log. The last line is `N refused, M failed`, of those tried here."""
+import argparse
 import os
 import re
 import shutil
@@ -18,10 +20,18 @@ from concurrent.futures import ThreadPoolExecutor
 from pathlib import Path
 
 ROOT = Path(__file__).resolve().parent.parent
+CRATES = ROOT / 'crates'
 WORK = ROOT / 'target' / 'wrong-programs'
+GATE = ROOT / 'target' / 'must-fail'
 PAGE = ROOT / 'docs' / 'WRONG-PROGRAMS.md'
-# what antt says where an edit has changed which facts a function needs, or the shape of what a proof takes apart, so that the proof no longer fits
-UNFIT = re.compile(r'that can be named from here|has no field|is for an impossible case')
+FOLDERS = ('must-fail', 'wrong')
+PARTS = ('src', 'specs', 'proofs')
+# what antt says where a proof no longer fits, since an edit has changed the shape of what it takes apart or taken a fact away: what it names is gone
+GONE = re.compile(r'that can be named from here|has\s+no\s+field|is for an impossible case|is not in scope|more patterns than')
+# and where the edit has added a fact, so that only the list of facts no longer fits
+SHIFTED = re.compile(r'expected type `tie\.Need-[^`]*`, but this has\s+type `tie\.Need-')
+# an error with its place and the lines that explain it
+ERROR = re.compile(r'^(\S+?):\d+:\d+: error: (.*(?:\n  .*){0,2})', re.M)
 
 
 def libraries(crate, lines):
@@ -76,10 +86,10 @@ def shadow(crate, label, lines):
     for part in ('rlib', 'stamp'):
         (top / 'target' / part).symlink_to(ROOT / 'target' / part)
     for name in libraries(crate, lines):
-        (top / 'crates' / name).symlink_to(ROOT / 'crates' / name)
-    for part in ('src', 'specs', 'proofs'):
-        if (ROOT / 'crates' / crate / part).is_dir():
-            shutil.copytree(ROOT / 'crates' / crate / part, top / 'crates' / crate / part)
+        (top / 'crates' / name).symlink_to(CRATES / name)
+    for part in PARTS:
+        if (CRATES / crate / part).is_dir():
+            shutil.copytree(CRATES / crate / part, top / 'crates' / crate / part)
     return top
 
 
@@ -104,8 +114,8 @@ def apply(edit, folder):
     if not changes:
         return 'it has no replacement'
     for name, old, new in changes:
-        if not name or not re.match(r'(src|specs|proofs)/', name) or not (folder / name).is_file():
-            return 'it names no file of the crate'
+        if not name or not re.match(r'(src|specs)/', name) or not (folder / name).is_file():
+            return 'it names no file of src/ or specs/'
         text = (folder / name).read_text()
         if not old or text.count(old) != 1:
             return 'a text that it replaces is not there once in ' + name
@@ -113,24 +123,50 @@ def apply(edit, folder):
     return None
 
 
-def first_error(said):
-    """The function, or the file of definitions or laws, in which the prover refuses first, with the fact or declaration; and its message.
-    A declaration that only rests on one that was refused is passed over."""
-    alone = re.search(r"^fn \w+::(\S+): no proof: .*`search` does not close (`.*)$", said, re.M)
+def errors(said):
+    """The prover's errors: file and message. One that only says that it rests on a declaration that was refused is passed over."""
+    return [(re.sub(r'^.*/(must-fail/[^/]+/[^/]+|crates/[^/]+)/', '', path), message)
+            for path, message in ERROR.findall(said) if 'was not admitted' not in message.split('\n')[0]]
+
+
+def unfit(messages):
+    """Of the errors in one proof file, one which shows that the proof no longer fits. A name that is gone shows it wherever it stands: the facts are
+    numbered, and one that is numbered anew may look wrong before another is missed."""
+    if SHIFTED.search(messages[0]):
+        return messages[0]
+    return next((m for m in messages if GONE.search(m)), None)
+
+
+def refusal(said):
+    """Where the prover refuses first: the function, or the file of definitions or laws, with the fact or declaration. And the error which shows that
+    the proof only no longer fits, if there is one."""
+    alone = re.search(r"^fn \w+::(\S+): no proof: .*`search` does not close `([^`]+)`", said, re.M)
     if alone:
-        return alone.group(1).replace('::', '/') + ', ' + re.findall(r'`([^`]+)`', alone.group(2))[0], ''
-    for path, message in re.findall(r'^(\S+?):\d+:\d+: error: (.*(?:\n.*){2})', said, re.M):
-        if 'was not admitted' not in message.split('\n')[0]:
-            place = re.sub(r'^.*/crates/[^/]+/', '', path)
-            place = re.sub(r'^proofs/(.*)/Proof\.antt$', r'\1', place)
-            named = re.match(r'`([^`]+)`', message)
-            return place + (', ' + named.group(1) if named else ''), message
-    return None, ''
+        return '%s, %s' % (alone.group(1).replace('::', '/'), alone.group(2)), None
+    found = errors(said)
+    if not found:
+        return None, None
+    path, message = found[0]
+    named = re.match(r'`([^`]+)`', message)
+    place = re.sub(r'^proofs/(.*)/Proof\.antt$', r'\1', path) + (', ' + named.group(1) if named else '')
+    return place, unfit([m for p, m in found if p == path])
+
+
+def judged(name, status, said, how):
+    """What came of an edit, by the prover's exit status and what it said: its place of refusal, or None, and a line that says it."""
+    place, misfit = refusal(said)
+    if status == 0:
+        return None, '%s: NOT REFUSED (%s)' % (name, how)
+    if status != 1 or '\nlogic=not-proved' not in said or not place:
+        return None, '%s: BAD EDIT: no fact was refused' % name
+    if misfit:
+        return None, '%s: UNFIT: the proof file no longer fits: %s' % (name, misfit[:150])
+    return place, '%s: refused at %s (%s)' % (name, place, how)
 
 
 def attempt(crate, edit, lines):
-    """Tries one edit; answers its place of refusal, or None, and a line that says what came of it."""
-    name = '%s/%s' % (crate, edit.stem)
+    """Tries one edit over the right crate's check."""
+    name = name_of(edit)
     top = shadow(crate, edit.stem, lines)
     wrong = apply(edit, top / 'crates' / crate)
     if wrong:
@@ -138,70 +174,131 @@ def attempt(crate, edit, lines):
     shutil.copytree(WORK / crate / '.right' / 'target' / 'inc' / crate, top / 'target' / 'inc' / crate)
     status, said, took = check(top, crate, WORK / crate / (edit.stem + '.log'))
     shutil.rmtree(top)
-    place, message = first_error(said)
-    if status == 0:
-        return None, '%s: NOT REFUSED (%.0f s)' % (name, took)
-    if status != 1 or '\nlogic=not-proved' not in said or not place:
-        return None, '%s: BAD EDIT: it did not reach the prover' % name
-    if UNFIT.search(message):
-        return None, '%s: UNFIT: only the proof file no longer fits: %s' % (name, message[:150])
-    return place, '%s: refused at %s (%.0f s)' % (name, place, took)
+    return judged(name, status, said, '%.0f s' % took)
+
+
+def gate_log(crate, edit, lines):
+    """The log that `rt ci` left of an edit of must-fail/, if it is newer than the edit and all that is proved there."""
+    log = GATE / crate / edit.stem / '.log'
+    if edit.parent.name != 'must-fail' or not log.is_file():
+        return None
+    files = [f for c in [crate] + libraries(crate, lines) for part in PARTS for f in (CRATES / c / part).rglob('*')]
+    return log if all(f.stat().st_mtime < log.stat().st_mtime for f in files + [edit]) else None
+
+
+def by_gate(edit, log):
+    """What came of an edit that `rt ci` tried."""
+    said = log.read_text()
+    return judged(name_of(edit), 0 if '\nlogic=proved' in said else 1, said, 'rt ci')
+
+
+def name_of(edit):
+    return '%s/%s' % (edit.parts[-3], edit.stem)
+
+
+def all_edits():
+    """The edits of each crate, by label."""
+    edits = {}
+    for edit in sorted((e for folder in FOLDERS for e in CRATES.glob('*/%s/*.edit' % folder)), key=name_of):
+        edits.setdefault(edit.parts[-3], []).append(edit)
+    return edits
 
 
 def page(places):
-    """The page of wrong programs: of each edit what it stands for, and where it is refused."""
+    """The page of wrong programs: of each edit what it stands for, its folder, and where it is refused."""
     text = [PAGE_HEAD]
-    for crate in sorted({name.split('/')[0] for name in places}):
-        text.append('\n## `%s`\n\n| edit | the wrong program | refused at |\n|---|---|---|' % crate)
-        for name in sorted(places):
-            if name.startswith(crate + '/'):
-                edit = ROOT / 'crates' / crate / 'must-fail' / (name.split('/')[1] + '.edit')
-                text.append('| `%s` | %s | %s |' % (edit.stem, meaning(edit).replace('|', r'\|'), places[name]))
+    for crate, edits in all_edits().items():
+        text.append('\n## `%s`\n\n| edit | the wrong program | folder | refused at |\n|---|---|---|---|' % crate)
+        text += ['| `%s` | %s | %s | %s |' % (e.stem, meaning(e).replace('|', r'\|'), e.parent.name, places.get(name_of(e), 'nowhere')) for e in edits]
     return '\n'.join(text) + '\n'
 
 
 PAGE_HEAD = """# Wrong programs
 
-Each row is an edit of a crate, `crates/CRATE/must-fail/EDIT.edit`, that makes the wrong program (or states the wrong rule) that the row names, and that the prover must refuse. `make test` tries all of them.
+Each row is an edit of a crate that makes the wrong program (or states the wrong rule) that the row names, and that the prover must refuse. `make test` tries all of them.
+The third column is the folder of the crate that has the edit. Those of `must-fail/` are tried by the toolchain's gate, `rt ci`, which proves the whole edited crate from nothing: the errors that document 01 names, and the most telling ones of each exported function and of the functions below. Those of `wrong/` are tried by `tests/wrong_programs.py` over what the check of the right crate left (`rt dev`), so that only what the edit changes is checked again.
 The last column is the first place where the prover refuses: a function and the fact of its proof that no longer holds, or a file of definitions or laws and the declaration in it. A fact called `returns` is that the function's result meets its contract; `loop-again` is that a turn keeps a loop's invariant.
-`tests/wrong_programs.py` tries them and holds this page to what it finds; `tests/wrong_programs.py --write` writes it."""
+`tests/wrong_programs.py` holds this page to what it finds for both; `tests/wrong_programs.py --write` writes it."""
 
 
-def main():
-    words = sys.argv[1:]
-    write = '--write' in words
-    wanted = [w for w in words if not w.startswith('--')]
-    lines = crate_lines()
-    edits = {}
-    for edit in sorted(ROOT.glob('crates/*/must-fail/*.edit')):
-        crate = edit.parts[-3]
-        if not wanted or crate in wanted or '%s/%s' % (crate, edit.stem) in wanted:
-            edits.setdefault(crate, []).append(edit)
-    places, failed = {}, 0
-    with ThreadPoolExecutor(os.cpu_count()) as pool:
+def arguments(edits, lines):
+    """The words of the command line; one that is not known ends the run with how it is used."""
+    parser = argparse.ArgumentParser(description='Tries the wrong programs, and holds docs/WRONG-PROGRAMS.md to what it finds.', allow_abbrev=False)
+    parser.add_argument('--write', action='store_true', help='write docs/WRONG-PROGRAMS.md anew')
+    parser.add_argument('names', nargs='*', metavar='CRATE[/LABEL]', help='try these edits only, also those that rt ci has tried')
+    words = parser.parse_args()
+    known = set(lines) | {name_of(e) for group in edits.values() for e in group}
+    for name in words.names:
+        if name not in known:
+            parser.error('there is no crate and no edit %s' % name)
+    if words.write and words.names:
+        parser.error('--write is for all edits')
+    return words
+
+
+def chosen(edits, names):
+    """The edits that are named, or all."""
+    found = {crate: [e for e in group if not names or crate in names or name_of(e) in names] for crate, group in edits.items()}
+    return {crate: group for crate, group in found.items() if group}
+
+
+def try_here(edits, lines):
+    """Tries edits over the right crates' checks; answers what came of each, by name, and how many crates were not proved."""
+    found, unproved = {}, 0
+    with ThreadPoolExecutor(int(os.environ.get('RT_JOBS') or os.cpu_count())) as pool:
         rights = {crate: pool.submit(right, crate, lines) for crate in edits}
         trials = []
         for crate in edits:
             proved, took = rights[crate].result()
             print('%s: %s (%.0f s)' % (crate, 'proved' if proved else 'NOT PROVED', took), flush=True)
-            failed += not proved
+            unproved += not proved
             if proved:
-                trials += [('%s/%s' % (crate, e.stem), pool.submit(attempt, crate, e, lines)) for e in edits[crate]]
+                trials += [(name_of(e), pool.submit(attempt, crate, e, lines)) for e in edits[crate]]
         for name, trial in trials:
             place, line = trial.result()
             print(line, flush=True)
-            if place:
-                places[name] = place
-            else:
-                failed += 1
+            found[name] = place
     for crate in edits:
         shutil.rmtree(WORK / crate / '.right', ignore_errors=True)
-    if write and not wanted:
+    return found, unproved
+
+
+def read_gate(edits, lines):
+    """Reads what `rt ci` left of edits; answers what came of each, by name, and the edits of which it left nothing."""
+    found, rest = {}, {}
+    for crate in edits:
+        for edit in edits[crate]:
+            log = gate_log(crate, edit, lines)
+            if log:
+                found[name_of(edit)], line = by_gate(edit, log)
+                print(line, flush=True)
+            else:
+                rest.setdefault(crate, []).append(edit)
+    return found, rest
+
+
+def page_differs(places, write):
+    """Writes the page, or says whether it differs from what was found."""
+    if write:
         PAGE.write_text(page(places))
-    elif not wanted and (not PAGE.exists() or PAGE.read_text() != page(places)):
+    elif not PAGE.exists() or PAGE.read_text() != page(places):
         print('docs/WRONG-PROGRAMS.md does not say what was found; tests/wrong_programs.py --write writes it')
-        failed += 1
-    print('%d refused, %d failed' % (len(places), failed))
+        return True
+    return False
+
+
+def main():
+    lines, edits = crate_lines(), all_edits()
+    words = arguments(edits, lines)
+    wanted = chosen(edits, words.names)
+    by_rt_ci, wanted = ({}, wanted) if words.names else read_gate(wanted, lines)
+    here, unproved = try_here(wanted, lines)
+    places = {name: place for name, place in (by_rt_ci | here).items() if place}
+    failed = unproved + len(by_rt_ci) + len(here) - len(places)
+    if not words.names:
+        failed += page_differs(places, words.write)
+        print('%d more were refused by rt ci' % sum(1 for place in by_rt_ci.values() if place))
+    print('%d refused, %d failed' % (sum(1 for place in here.values() if place), failed))
     sys.exit(1 if failed else 0)
 
 
