@@ -22,7 +22,7 @@ const FEW: usize = 4;
 #[repr(C)]
 pub struct History {
     pub count: u8,
-    pub words: [u64; 32],
+    pub words: [u64; words::CAPACITY],
 }
 
 // Whether some command of h has c's proposer and serial.
@@ -118,16 +118,15 @@ pub fn valid(h: &[u64]) -> bool
     is_canonical(h)
 }
 
-// Whether the history of this count and these words may be lent: at most 32 commands, and valid.
-pub fn lendable(count: u8, words: &[u64]) -> bool
-    ensures { λ r. ⌜ r ≡ validStored (historyOf count (now (words .entry))) ⌝ }
+// Whether the history of these words and this count may be lent: at most as many commands as the limit says, and valid.
+pub fn lendable(limit: u8, words: &[u64], count: u8) -> bool
+    ensures { λ r. ⌜ r ≡ validStored limit (historyOf (now (words .entry)) count) ⌝ }
 {
-    let n = count as usize;
-    let fits = n <= History::LIMIT;
+    let fits = count <= limit;
     if !fits {
         return false;
     }
-    valid(first(words, n))
+    valid(first(words, count as usize))
 }
 
 // Whether a list that a frame carries is refused with HISTORY: a proposer and serial twice, not in canonical order, or empty.
@@ -308,17 +307,14 @@ pub fn extends(h: &[u64], g: &[u64]) -> bool
 }
 
 impl History {
-    // The most commands that a history holds.
-    pub const LIMIT: usize = 32;
-
-    // The first 32 commands of h, and zeros after them.
+    // The first commands of h, as many as there is room for, and zeros after them.
     pub fn of(h: &[u64]) -> History
         ensures { λ r. ⌜ r ≡ words.stored (now (h .entry)) ⌝ }
     {
-        let mut w = [0u64; 32];
+        let mut w = [0u64; words::CAPACITY];
         fill(&mut w, h);
         let n = h.len();
-        if n < Self::LIMIT {
+        if n < words::CAPACITY {
             History {
                 count: n as u8,
                 words: w,

@@ -9,7 +9,7 @@ use borrow.Author.Tests.{lt-ltb, le-ltb, le-leb, lt-leb}
 use lib.ListN.{length, take, drop, getD, set, replicate, length-set, length-drop, length-replicate, List·getD-eq-default}
 use lib.Seq.{sets, sets-eq, length-sets, length-take-le, take-append-le, take-set-le, drop-set-lt, drop-set-add, drop-at, getD-set-same, getD-set-other}
 use Rattle.roster.specs.SitesLaws.{lt-or-le}
-use Rattle.history.specs.Words.{limit, padded}
+use Rattle.history.specs.Words.{capacity, padded}
 use Rattle.history.specs.WordsLaws.{length-padded, take-padded}
 use Rattle.table.specs.declared.Table.{Table}
 use Rattle.table.specs.Table.{sites, inRange, row, rowOf, withRow, storedAt, tableOf, storedIn, emptyTable}
@@ -19,7 +19,7 @@ use Rattle.table.specs.Table.{sites, inRange, row, rowOf, withRow, store
 -- the lengths of a table's arrays: those that every table in code has
 pub record Sized (t : Table) : Type 0 where
   pub counts-length : length (t .counts) ≡ sites
-  pub words-length : length (t .words) ≡ limit * sites
+  pub words-length : length (t .words) ≡ capacity * sites
 
 -- ---- a row
 
@@ -28,18 +28,18 @@ pub row-past : (words counts : List ℕ) (i : ℕ) → length counts ≤ i → r
 unfolding row inRange
 row-past words counts i p = rw (le-ltb i (length counts) p)
 
-pub row-short : (words counts : List ℕ) (i : ℕ) → length words < limit * i + limit → row words counts i ≡ []
+pub row-short : (words counts : List ℕ) (i : ℕ) → length words < capacity * i + capacity → row words counts i ≡ []
 unfolding row inRange
-row-short words counts i p = rw (lt-leb (limit * i + limit) (length words) p, and-false)
+row-short words counts i p = rw (lt-leb (capacity * i + capacity) (length words) p, and-false)
 
-pub row-over : (words counts : List ℕ) (i : ℕ) → limit < getD counts i 0 → row words counts i ≡ []
+pub row-over : (words counts : List ℕ) (i : ℕ) → capacity < getD counts i 0 → row words counts i ≡ []
 unfolding row inRange
-row-over words counts i p = rw (lt-leb (getD counts i 0) limit p, and-false, and-false)
+row-over words counts i p = rw (lt-leb (getD counts i 0) capacity p, and-false, and-false)
 
-pub row-is : (words counts : List ℕ) (i : ℕ) → i < length counts → limit * i + limit ≤ length words → getD counts i 0 ≤ limit
-    → row words counts i ≡ take (getD counts i 0) (drop (limit * i) words)
+pub row-is : (words counts : List ℕ) (i : ℕ) → i < length counts → capacity * i + capacity ≤ length words → getD counts i 0 ≤ capacity
+    → row words counts i ≡ take (getD counts i 0) (drop (capacity * i) words)
 unfolding row inRange
-row-is words counts i p q r = rw (lt-ltb i (length counts) p, le-leb (limit * i + limit) (length words) q, le-leb (getD counts i 0) limit r)
+row-is words counts i p q r = rw (lt-ltb i (length counts) p, le-leb (capacity * i + capacity) (length words) q, le-leb (getD counts i 0) capacity r)
 
 -- a row with count 0 is empty
 pub row-none : (words counts : List ℕ) (i : ℕ) → getD counts i 0 ≡ 0 → row words counts i ≡ []
@@ -53,8 +53,8 @@ row-none words counts i e = rw e (go (inRange words counts i))
 -- each row is one of the two: empty, or as many of its words as its count says, which is at most 32
 pub record Within (words counts : List ℕ) (i : ℕ) : Type 0 where
   pub counted : i < length counts
-  pub worded : limit * i + limit ≤ length words
-  pub count-le : getD counts i 0 ≤ limit
+  pub worded : capacity * i + capacity ≤ length words
+  pub count-le : getD counts i 0 ≤ capacity
 
 pub row-cases : (words counts : List ℕ) (i : ℕ) → (row words counts i ≡ []) ⊎ Within words counts i
 row-cases words counts i =
@@ -62,8 +62,8 @@ row-cases words counts i =
     (λ p.
     ⊎-elim
     (λ q. inl (row-short words counts i q))
-    (λ q. ⊎-elim (λ r. inl (row-over words counts i r)) (λ r. inr (record { counted = p; worded = q; count-le = r })) (lt-or-le limit (getD counts i 0)))
-    (lt-or-le (length words) (limit * i + limit)))
+    (λ q. ⊎-elim (λ r. inl (row-over words counts i r)) (λ r. inr (record { counted = p; worded = q; count-le = r })) (lt-or-le capacity (getD counts i 0)))
+    (lt-or-le (length words) (capacity * i + capacity)))
     (λ p. inl (row-past words counts i p))
     (lt-or-le i (length counts))
 
@@ -75,9 +75,9 @@ part-length l at n p = length-take-le n (drop at l) (simp length-drop (omega ari
 within-length : (words counts : List ℕ) (i : ℕ) → Within words counts i → length (row words counts i) ≡ getD counts i 0
 within-length words counts i w =
     ap length (row-is words counts i (w .counted) (w .worded) (w .count-le))
-    ∙ part-length words (limit * i) (getD counts i 0) (omega arith)
+    ∙ part-length words (capacity * i) (getD counts i 0) (omega arith)
 
-pub length-row : (words counts : List ℕ) (i : ℕ) → length (row words counts i) ≤ limit
+pub length-row : (words counts : List ℕ) (i : ℕ) → length (row words counts i) ≤ capacity
 length-row words counts i =
     ⊎-elim (λ e. rw e (omega arith)) (λ w. omega (arith, within-length words counts i w)) (row-cases words counts i)
 
@@ -109,19 +109,19 @@ part-same vs n at l p q =
 
 module _ (t : Table) (i : ℕ) (l : List ℕ) where
   -- the row is the list, if there is room for it
-  pub row-same : i < length (t .counts) → limit * i + limit ≤ length (t .words) → length l ≤ limit → rowOf (withRow t i l) i ≡ l
+  pub row-same : i < length (t .counts) → capacity * i + capacity ≤ length (t .words) → length l ≤ capacity → rowOf (withRow t i l) i ≡ l
   row-same p q r =
       let s = withRow t i l in
       let c : getD (s .counts) i 0 ≡ length l = getD-set-same (t .counts) i (length l) 0 p in
       row-is (s .words) (s .counts) i (rw (length-set (t .counts) i (length l)) p)
-      (rw (length-sets (t .words) (limit * i) (padded limit l)) q) (rw c r)
+      (rw (length-sets (t .words) (capacity * i) (padded capacity l)) q) (rw c r)
       ∙ rw
-      (c, part-same (padded limit l) (length l) (limit * i) (t .words) (rw (length-padded limit l) q) (rw (length-padded limit l) r))
-      (take-padded limit l r)
+      (c, part-same (padded capacity l) (length l) (capacity * i) (t .words) (rw (length-padded capacity l) q) (rw (length-padded capacity l) r))
+      (take-padded capacity l r)
 
   -- another row stays: its words stand before those that are written, or after them
-  separate : (j : ℕ) → j ≢ i → getD (t .counts) j 0 ≤ limit
-      → (limit * i + limit ≤ limit * j) ⊎ (limit * j + getD (t .counts) j 0 ≤ limit * i)
+  separate : (j : ℕ) → j ≢ i → getD (t .counts) j 0 ≤ capacity
+      → (capacity * i + capacity ≤ capacity * j) ⊎ (capacity * j + getD (t .counts) j 0 ≤ capacity * i)
   separate j n p = ⊎-elim (λ q. inl (omega arith)) (λ q. inr (omega (arith, n))) (lt-or-le i j)
 
   pub row-other : (j : ℕ) → j ≢ i → rowOf (withRow t i l) j ≡ rowOf t j
@@ -134,50 +134,50 @@ module _ (t : Table) (i : ℕ) (l : List ℕ) where
       (λ p.
       rw (
         length-set (t .counts) i (length l),
-        length-sets (t .words) (limit * i) (padded limit l),
+        length-sets (t .words) (capacity * i) (padded capacity l),
         c,
-        part-sets (padded limit l) (getD (t .counts) j 0) (limit * j) (t .words) (limit * i) (rw (length-padded limit l) (separate j n p)),
+        part-sets (padded capacity l) (getD (t .counts) j 0) (capacity * j) (t .words) (capacity * i) (rw (length-padded capacity l) (separate j n p)),
       ))
-      (lt-or-le limit (getD (t .counts) j 0))
+      (lt-or-le capacity (getD (t .counts) j 0))
 
 -- ---- a store
 
 -- what it is, where there is such a row and the list fits; elsewhere the table stays
-pub stored-is : (t : Table) (i : ℕ) (l : List ℕ) → i < sites → length l ≤ limit
+pub stored-is : (t : Table) (i : ℕ) (l : List ℕ) → i < sites → length l ≤ capacity
     → storedAt t i l ≡ withRow t i l
 unfolding storedAt
-stored-is t i l p q = rw (lt-ltb i sites p, le-leb (length l) limit q)
+stored-is t i l p q = rw (lt-ltb i sites p, le-leb (length l) capacity q)
 
 pub stored-past : (t : Table) (i : ℕ) (l : List ℕ) → sites ≤ i → storedAt t i l ≡ t
 unfolding storedAt
 stored-past t i l p = rw (le-ltb i sites p)
 
-pub stored-long : (t : Table) (i : ℕ) (l : List ℕ) → limit < length l → storedAt t i l ≡ t
+pub stored-long : (t : Table) (i : ℕ) (l : List ℕ) → capacity < length l → storedAt t i l ≡ t
 unfolding storedAt
-stored-long t i l p = rw (lt-leb (length l) limit p, and-false)
+stored-long t i l p = rw (lt-leb (length l) capacity p, and-false)
 
 -- stored in lists, which have room for a table or not
-pub stored-in : (words counts : List ℕ) (i : ℕ) (l : List ℕ) → sites ≤ length counts → limit * sites ≤ length words
+pub stored-in : (words counts : List ℕ) (i : ℕ) (l : List ℕ) → sites ≤ length counts → capacity * sites ≤ length words
     → storedIn words counts i l ≡ storedAt (tableOf words counts) i l
 unfolding storedIn
-stored-in words counts i l p q = rw (le-leb sites (length counts) p, le-leb (limit * sites) (length words) q)
+stored-in words counts i l p q = rw (le-leb sites (length counts) p, le-leb (capacity * sites) (length words) q)
 
 pub stored-few : (words counts : List ℕ) (i : ℕ) (l : List ℕ) → length counts < sites → storedIn words counts i l ≡ tableOf words counts
 unfolding storedIn
 stored-few words counts i l p = rw (lt-leb sites (length counts) p)
 
-pub stored-short : (words counts : List ℕ) (i : ℕ) (l : List ℕ) → length words < limit * sites → storedIn words counts i l ≡ tableOf words counts
+pub stored-short : (words counts : List ℕ) (i : ℕ) (l : List ℕ) → length words < capacity * sites → storedIn words counts i l ≡ tableOf words counts
 unfolding storedIn
-stored-short words counts i l p = rw (lt-leb (limit * sites) (length words) p, and-false)
+stored-short words counts i l p = rw (lt-leb (capacity * sites) (length words) p, and-false)
 
 -- a property that the store has where it is done, and that the table has, is one of what is stored in any case
 module _ (P : Table → Type 0) (t : Table) (i : ℕ) (l : List ℕ) (same : P t) where
-  pub stored-keeps : (i < sites → length l ≤ limit → P (withRow t i l))
+  pub stored-keeps : (i < sites → length l ≤ capacity → P (withRow t i l))
       → P (storedAt t i l)
   stored-keeps done =
       ⊎-elim
       (λ p.
-      ⊎-elim (λ q. rw (stored-long t i l q) same) (λ q. rw (stored-is t i l p q) (done p q)) (lt-or-le limit (length l)))
+      ⊎-elim (λ q. rw (stored-long t i l q) same) (λ q. rw (stored-is t i l p q) (done p q)) (lt-or-le capacity (length l)))
       (λ p. rw (stored-past t i l p) same)
       (lt-or-le i sites)
 
@@ -188,7 +188,7 @@ stored-sized {t} s i l =
     (λ p q.
     record {
       counts-length = length-set (t .counts) i (length l) ∙ s .counts-length;
-      words-length = length-sets (t .words) (limit * i) (padded limit l) ∙ s .words-length;
+      words-length = length-sets (t .words) (capacity * i) (padded capacity l) ∙ s .words-length;
     })
 
 -- the count at the place of a store is the new one, or there is none
@@ -198,7 +198,7 @@ count-same counts i n =
     (lt-or-le i (length counts))
 
 -- the rows after it: the stored list, and each other row as it was
-pub row-stored : {t : Table} → Sized t → (i : ℕ) (l : List ℕ) → i < sites → length l ≤ limit → rowOf (storedAt t i l) i ≡ l
+pub row-stored : {t : Table} → Sized t → (i : ℕ) (l : List ℕ) → i < sites → length l ≤ capacity → rowOf (storedAt t i l) i ≡ l
 row-stored {t} s i l p q = rw (stored-is t i l p q) (row-same t i l (omega arith) (omega arith) q)
 
 pub row-stored-other : (t : Table) (i : ℕ) (l : List ℕ) (j : ℕ) → j ≢ i → rowOf (storedAt t i l) j ≡ rowOf t j
@@ -219,7 +219,7 @@ count-empty i = getD-zeros sites i
 
 pub empty-sized : Sized emptyTable
 unfolding emptyTable
-empty-sized = record { counts-length = length-replicate {A = ℕ} sites 0; words-length = length-replicate {A = ℕ} (limit * sites) 0 }
+empty-sized = record { counts-length = length-replicate {A = ℕ} sites 0; words-length = length-replicate {A = ℕ} (capacity * sites) 0 }
 
 pub row-empty : (i : ℕ) → rowOf emptyTable i ≡ []
 row-empty i = row-none (emptyTable .words) (emptyTable .counts) i (count-empty i)

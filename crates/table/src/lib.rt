@@ -3,7 +3,6 @@ ghost use mathlib.Core.Path.{_≡_};
 ghost use Rattle.roster.specs.Sites.{allTo};
 ghost use Rattle.table.specs.Table.{sites};
 ghost use Rattle.table.specs.Table as spec;
-use history::History;
 
 // One history a site: row i is words 32 * i to 32 * i + 31, of which the first counts[i] are the history. The words after them mean
 // nothing.
@@ -20,14 +19,14 @@ pub fn row<'a>(words: &'a [u64], counts: &'a [u8], site: usize) -> &'a [u64]
     if counts.len() <= site {
         return &words[..0];
     }
-    if words.len() / History::LIMIT <= site {
+    if words.len() / words::CAPACITY <= site {
         return &words[..0];
     }
     let n = counts[site] as usize;
-    if History::LIMIT < n {
+    if words::CAPACITY < n {
         return &words[..0];
     }
-    let start = History::LIMIT * site;
+    let start = words::CAPACITY * site;
     &words[start..start + n]
 }
 
@@ -39,33 +38,33 @@ pub fn store(words: &mut [u64], counts: &mut [u8], site: usize, h: &[u64])
     if counts.len() < Table::SITES {
         return;
     }
-    if words.len() < History::LIMIT * Table::SITES {
+    if words.len() < words::CAPACITY * Table::SITES {
         return;
     }
     if Table::SITES <= site {
         return;
     }
     let len = h.len();
-    if History::LIMIT < len {
+    if words::CAPACITY < len {
         return;
     }
     counts[site] = len as u8;
-    let at = History::LIMIT * site;
-    history::fill(&mut words[at..at + History::LIMIT], h);
+    let at = words::CAPACITY * site;
+    history::fill(&mut words[at..at + words::CAPACITY], h);
 }
 
-// Whether row `site` is one that lent state may hold, for n sites. An empty one is, and so is one without a count.
-fn row_valid<'a>(words: &'a [u64], counts: &'a [u8], site: usize, n: u8) -> bool
-    ensures { λ r. ⌜ r ≡ spec.validRow n (now (words .entry)) (now (counts .entry)) site ⌝ }
+// Whether row `site` is one that lent state may hold, under a limit and for n sites. An empty one is, and so is one without a count.
+fn row_valid<'a>(limit: u8, words: &'a [u64], counts: &'a [u8], site: usize, n: u8) -> bool
+    ensures { λ r. ⌜ r ≡ spec.validRow limit n (now (words .entry)) (now (counts .entry)) site ⌝ }
 {
     if site >= counts.len() {
         return true;
     }
-    let count = counts[site] as usize;
+    let count = counts[site];
     if count == 0 {
         return true;
     }
-    if History::LIMIT < count {
+    if limit < count {
         return false;
     }
     if n as usize <= site {
@@ -74,13 +73,13 @@ fn row_valid<'a>(words: &'a [u64], counts: &'a [u8], site: usize, n: u8) -> bool
     history::valid(row(words, counts, site))
 }
 
-// Whether every row of a table's words and counts is one that lent state may hold, for n sites.
-pub fn rows_valid<'a>(words: &'a [u64], counts: &'a [u8], n: u8) -> bool
-    ensures { λ r. ⌜ r ≡ allTo sites (spec.validRow n (now (words .entry)) (now (counts .entry))) ⌝ }
+// Whether every row of a table's words and counts is one that lent state may hold, under a limit and for n sites.
+pub fn rows_valid<'a>(limit: u8, words: &'a [u64], counts: &'a [u8], n: u8) -> bool
+    ensures { λ r. ⌜ r ≡ allTo sites (spec.validRow limit n (now (words .entry)) (now (counts .entry))) ⌝ }
 {
     let mut i: usize = 0;
     while i < Table::SITES {
-        let good = row_valid(words, counts, i, n);
+        let good = row_valid(limit, words, counts, i, n);
         if !good {
             return false;
         }

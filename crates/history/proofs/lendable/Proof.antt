@@ -4,7 +4,7 @@ use mathlib.Core.Path.{ap, _∙_}
 use borrow.Author.Needs.{needs}
 use borrow.Author.Tests.{not-true, not-false}
 use lib.Dec.{leb}
-use Rattle.history.specs.Words.{limit, validStored}
+use Rattle.history.specs.Words.{validStored}
 use Rattle.history.specs.History.{validHistory}
 use Rattle.history.proofs.lendable.Statement.{statement}
 use Rattle.history.proofs.lendable.Tie as tie
@@ -14,7 +14,7 @@ unfolding validStored
 returns c =
     let given = c .before .before .args in
     let if1 = c .if1 in
-    rw (not-true (leb (given .count) limit) (if1 .taken))
+    rw (not-true (leb (given .count) (given .limit)) (if1 .taken))
 
 first-requires : tie.Need-first-requires
 first-requires c κs = search needs
@@ -29,7 +29,7 @@ returns-2 c =
     let if1 = c .before .before .if1 in
     let valid-call = c .valid in
     let first-call = c .before .first in
-    rw (not-false (leb (given .count) limit) (if1 .left)) (valid-call .ensures ∙ ap validHistory (first-call .ensures))
+    rw (not-false (leb (given .count) (given .limit)) (if1 .left)) (valid-call .ensures ∙ ap validHistory (first-call .ensures))
 
 pub lendable-spec : {M : Type 1} → statement M
 lendable-spec = tie.close (tie.spec returns first-requires valid-requires returns-2)

@@ -4,7 +4,7 @@ use mathlib.Core.Path.{_≡_, sym}
 use Prim.Native.Nat.{_+_, _-_, _*_}
 use native.Mathlib.Omega.{arith}
 use lib.ListN.{getD}
-use Rattle.history.specs.Words.{limit}
+use Rattle.history.specs.Words.{capacity}
 use Rattle.table.specs.TableLaws.{row-past, row-short, row-over, row-is}
 use borrow.Author.Needs.{needs}
 use Rattle.table.proofs.row.Statement.{statement}
@@ -60,7 +60,7 @@ returns-4 : tie.Need-returns-4
 returns-4 c =
     let at = c .before .before .before .before .before .args in
     let n = getD (at .counts .now) (at .site) 0 in
-    let size : limit * at .site + n - limit * at .site ≡ n = omega arith in
+    let size : capacity * at .site + n - capacity * at .site ≡ n = omega arith in
     rw size (sym (row-is (at .words .now) (at .counts .now) (at .site) (search needs) (omega arith) (c .before .if3 .left)))
 
 pub row-spec : {M : Type 1} → statement M

@@ -1,7 +1,6 @@
 -- `table::row_valid` meets its contract: each return is an arm of the definition, under the tests that led there.
 -- Assumes nothing.
 use mathlib.Core.Path.{sym}
-use native.Mathlib.Omega.{arith}
 use borrow.Author.Tests.{lt-leb, le-leb, lt-ltb, le-ltb, ne-eqb}
 use lib.ListN.{List·getD-eq-default}
 use Rattle.table.specs.Table.{validRow}
@@ -11,16 +10,13 @@ use Rattle.table.proofs.row_valid.Statement.{statement}
 use Rattle.table.proofs.row_valid.Tie as tie
 
 returns : tie.Need-returns
-returns c = sym (valid-row-none _ (c .before .before .before .args .words .now) (c .before .before .before .args .counts .now) (c .before .before .before .args .site) (List·getD-eq-default (c .before .before .before .args .counts .now) 0 (c .if1 .taken)))
+returns c = sym (valid-row-none _ _ (c .before .before .before .args .words .now) (c .before .before .before .args .counts .now) (c .before .before .before .args .site) (List·getD-eq-default (c .before .before .before .args .counts .now) 0 (c .if1 .taken)))
 
 shared-slice-read-count : tie.Need-shared-slice-read-count
 shared-slice-read-count c = search needs
 
-cast-count : tie.Need-cast-count
-cast-count c = omega (arith, c .shared-slice-known3 .given (c .before .before .before .before .args .site))
-
 returns-2 : tie.Need-returns-2
-returns-2 c = sym (valid-row-none _ (c .before .before .before .before .before .args .words .now) (c .before .before .before .before .before .args .counts .now) (c .before .before .before .before .before .args .site) (c .if2 .taken))
+returns-2 c = sym (valid-row-none _ _ (c .before .before .before .before .before .args .words .now) (c .before .before .before .before .before .args .counts .now) (c .before .before .before .before .before .args .site) (c .if2 .taken))
 
 returns-3 : tie.Need-returns-3
 unfolding validRow
@@ -46,7 +42,6 @@ row-valid-spec =
     (tie.spec
     returns
     shared-slice-read-count
-    cast-count
     returns-2
     returns-3
     returns-4

@@ -13,10 +13,10 @@ use Rattle.table.proofs.rows_valid.Statement.{statement}
 use Rattle.table.proofs.rows_valid.Tie as tie
 
 abbrev Inv-loop : tie.InvT-loop
-Inv-loop words counts n i₀ i = (i ≤ sites) × (allTo i (validRow n words counts) ≡ true)
+Inv-loop limit words counts n i₀ i = (i ≤ sites) × (allTo i (validRow limit n words counts) ≡ true)
 
 abbrev μ-loop : tie.MeasureT-loop
-μ-loop words counts n i₀ i = sites - i
+μ-loop limit words counts n i₀ i = sites - i
 
 loop-holds : tie.Need-loop-holds Inv-loop μ-loop
 loop-holds c = (search needs, all-zero _)

@@ -8,7 +8,7 @@ use native.Mathlib.Omega.{arith}
 use borrow.Author.Needs.{needs}
 use lib.ListN.{length, take, drop}
 use lib.Seq.{sets, sets-eq, drop-drop}
-use Rattle.history.specs.Words.{limit, padded}
+use Rattle.history.specs.Words.{capacity, padded}
 use Rattle.history.specs.WordsLaws.{length-padded}
 use Rattle.table.specs.Table.{tableOf}
 use Rattle.table.specs.TableLaws.{part-length, stored-is, stored-past, stored-long, stored-in, stored-few, stored-short}
@@ -79,11 +79,11 @@ returns-5 c =
     let counts = c .before .before .before .before .before .before .before .before .before .before .before .args .counts .now in
     let site = c .before .before .before .before .before .before .before .before .before .before .before .args .site in
     let h = c .before .before .before .before .before .before .before .before .before .before .before .args .h .now in
-    let size : limit * site + limit - limit * site ≡ limit = omega arith in
-    let whole : limit * site + limit ≤ length words = omega arith in
-    let filled : c .before .before .fill .last .0 ≡ padded limit h =
-    c .before .before .fill .ensures ∙ ap (λ (n : ℕ). padded n h) (rw size (part-length words (limit * site) limit whole)) in
-    rw (size, filled, part-back words (padded limit h) (limit * site) limit (length-padded limit h) whole)
+    let size : capacity * site + capacity - capacity * site ≡ capacity = omega arith in
+    let whole : capacity * site + capacity ≤ length words = omega arith in
+    let filled : c .before .before .fill .last .0 ≡ padded capacity h =
+    c .before .before .fill .ensures ∙ ap (λ (n : ℕ). padded n h) (rw size (part-length words (capacity * site) capacity whole)) in
+    rw (size, filled, part-back words (padded capacity h) (capacity * site) capacity (length-padded capacity h) whole)
     (sym (stored-in words counts site h (c .before .before .before .before .before .before .before .if1 .left) (c .before .before .before .before .before .before .if2 .left) ∙ stored-is (tableOf words counts) site h (omega arith) (c .before .before .before .before .if4 .left)))
 
 pub store-spec : {M : Type 1} → statement M
