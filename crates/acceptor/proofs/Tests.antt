@@ -13,7 +13,7 @@ use Rattle.roster.specs.declared.Roster.{Roster}
 use Rattle.roster.specs.RosterLaws.{valid-figures}
 use Rattle.history.specs.History.{extends, canonical}
 use Rattle.history.specs.CanonicalLaws.{canonical-length}
-use Rattle.history.specs.Words.{padded, extendsWithin}
+use Rattle.history.specs.Words.{limit, padded, extendsWithin}
 use Rattle.words.specs.WordsLaws.{take-padded}
 use Rattle.history.specs.WordsLaws.{extends-within}
 use Rattle.merge.specs.Merge.{appended, appendedIn}
@@ -134,7 +134,7 @@ asked-short r n kind held w p = go (eqb kind 4) (p .fits)
 -- ---- a line: head and w are what was read of it, x is the answer, and t tells whether it refuses
 
 module _ (r : Roster) (own : ℕ) (v : ViewRecord) (s : State) (line out : List ℕ) (head : Heading) (w : List ℕ) (x : Answer) (t : Bool)
-    (f : readingWith head w ≡ readingOf line taken) (e : x ≡ answer (rulesOn r own (length out) v s (readingWith head w))) (g : t ≡ isRefused x) where
+    (f : readingWith head w ≡ readingOf limit line taken) (e : x ≡ answer (rulesOn r own (length out) v s (readingWith head w))) (g : t ≡ isRefused x) where
   answer-is : x ≡ answer (rules r own (length out) v s line)
   unfolding malformed
   answer-is = subst (λ (d : Reading). x ≡ answer (rulesOn r own (length out) v s d)) f e
@@ -161,6 +161,6 @@ module _ (r : Roster) (own : ℕ) (v : ViewRecord) (s : State) (line out : List 
       let fit : config r own (length out) v s ≡ false = no-test none Config in
       record {
         few-sites = valid-figures r (seated-is r own (length out) (and-left (seated r own (length out)) _ (not-false _ fit)) .roster) .max-sites;
-        short = rw (ap (λ (o : Reading). o .frame .n) f) (read-n line taken);
+        short = rw (ap (λ (o : Reading). o .frame .n) f) (read-n limit line taken);
         fits = λ k. ltb-false 32 _ (no-test (rw (eqb-true (head .kind) 4 k) at none) Full);
       }

@@ -81,7 +81,7 @@ taken = 118
 
 -- the frame that a line holds, and the history that it carries
 abbrev pub received : List ℕ → Frame
-received line = readingOf line taken .frame
+received line = readingOf limit line taken .frame
 
 abbrev pub carried : Frame → List ℕ
 carried m = first m
@@ -261,11 +261,11 @@ config r own room v s =
     not
     (seated r own room
     && (validRecord (r .n) v
-    && (validStored (s .held) && (validStored (s .proven) && (not (beyond (s .certificate) (r .n)) && validTable (r .n) (s .verified))))))
+    && (validStored limit (s .held) && (validStored limit (s .proven) && (not (beyond (s .certificate) (r .n)) && validTable limit (r .n) (s .verified))))))
 
 -- FORM: no line of a kind that an acceptor takes
 abbrev pub form : List ℕ → Bool
-form line = malformed line taken
+form line = malformed limit line taken
 
 -- the checks of a frame of a kind
 abbrev pub frameRules : Kind → Roster → View → Marks → List ℕ → List ℕ → List ℕ → Frame → List Rule

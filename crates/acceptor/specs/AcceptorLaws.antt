@@ -152,7 +152,7 @@ proves-extends r s m e =
 
 -- a line carries at most 32 commands, so its history is stored whole
 pub carried-short : (line : List ℕ) → length (carried (received line)) ≤ limit
-carried-short line = rw length-take (omega (arith, read-n line taken))
+carried-short line = rw length-take (omega (arith, read-n limit line taken))
 
 effect-grows : {r : Roster} {own : ℕ} {v : ViewRecord} {s : State} {m : Frame} {o : Reply State} → length (carried m) ≤ limit → Effect r own v s m o
     → Extends (provenOf (o .state)) (provenOf s)

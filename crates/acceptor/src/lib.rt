@@ -134,10 +134,10 @@ fn config<'a>(
 {
     !(site::seated(r, own, room)
         & (v.is_valid(r.n)
-            & (history::lendable(held_count, held)
-                & (history::lendable(proven_count, proven)
+            & (history::lendable(words::LIMIT, held, held_count)
+                & (history::lendable(words::LIMIT, proven, proven_count)
                     & (!roster::beyond(marks.certificate, r.n)
-                        & table::rows_valid(words, counts, r.n))))))
+                        & table::rows_valid(words::LIMIT, words, counts, r.n))))))
 }
 
 // The answer to a line of which this was read: CONFIG and FORM, and then by the frame.
@@ -289,7 +289,7 @@ pub fn step_in_place(
     ensures { λ o. ⌜ (parts.outcomeOf o (now (held .exit)) (now («held_count» .exit)) (now (proven .exit)) (now («proven_count» .exit)) (now (words .exit)) (now (counts .exit)) ≡ spec.returned r own v (parts.stateOf marks (now (held .entry)) (now («held_count» .entry)) (now (proven .entry)) (now («proven_count» .entry)) (now (words .entry)) (now (counts .entry))) (now (line .entry)) (now (out .entry))) × (now (out .exit) ≡ spec.output r own v (parts.stateOf marks (now (held .entry)) (now («held_count» .entry)) (now (proven .entry)) (now («proven_count» .entry)) (now (words .entry)) (now (counts .entry))) (now (line .entry)) (now (out .entry))) ⌝ }
 {
     let mut buf = [0u64; 64];
-    let head = frame::read_into(line, TAKEN, &mut buf);
+    let head = frame::read_into(words::LIMIT, line, TAKEN, &mut buf);
     let room = out.len();
     let answer = check(
         r,

@@ -29,7 +29,7 @@ fn count_of(h: &[u64]) -> u8
 
 // Makes h the history of these words and this count.
 pub(crate) fn replace(h: &[u64], words: &mut [u64; 32], count: &mut u8)
-    ensures { λ u. ⌜ historyOf (now (count .exit)) (now (words .exit)) ≡ stored (now (h .entry)) ⌝ }
+    ensures { λ u. ⌜ historyOf (now (words .exit)) (now (count .exit)) ≡ stored (now (h .entry)) ⌝ }
 {
     history::fill(words, h);
     *count = count_of(h);

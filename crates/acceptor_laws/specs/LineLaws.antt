@@ -138,10 +138,10 @@ p2b-proper own ballot mask h p = rw (le-leb (length h) limit p)
 
 -- a state that may be lent, for n sites
 pub record Lendable (n : ℕ) (s : State) : Type 0 where
-  pub held-valid : validStored (s .held) ≡ true
-  pub proven-valid : validStored (s .proven) ≡ true
+  pub held-valid : validStored limit (s .held) ≡ true
+  pub proven-valid : validStored limit (s .proven) ≡ true
   pub inside : beyond (s .certificate) n ≡ false
-  pub table-valid : validTable n (s .verified) ≡ true
+  pub table-valid : validTable limit n (s .verified) ≡ true
 
 pub record Configured (r : Roster) (own room : ℕ) (v : ViewRecord) (s : State) : Type 0 where
   pub seat : seated r own room ≡ true
@@ -155,14 +155,14 @@ configured-is r own room v s e =
     let a = not-false (seated r own room && _) e in
     let b = and-right (seated r own room) _ a in
     let c = and-right (validRecord (r .n) v) _ b in
-    let d = and-right (validStored (s .held)) _ c in
-    let f = and-right (validStored (s .proven)) _ d in
+    let d = and-right (validStored limit (s .held)) _ c in
+    let f = and-right (validStored limit (s .proven)) _ d in
     record {
       seat = and-left (seated r own room) _ a;
       views = and-left (validRecord (r .n) v) _ b;
       lent = record {
-        held-valid = and-left (validStored (s .held)) _ c;
-        proven-valid = and-left (validStored (s .proven)) _ d;
+        held-valid = and-left (validStored limit (s .held)) _ c;
+        proven-valid = and-left (validStored limit (s .proven)) _ d;
         inside = not-true (beyond (s .certificate) (r .n)) (and-left outside _ f);
         table-valid = and-right outside _ f;
       };
@@ -186,15 +186,15 @@ carried-checked : (s : State) (line : List ℕ) → form line ≡ false → wron
     → Checked s (carried (received line))
 carried-checked s line e p q =
     let h = carried (received line) in
-    record { short = carried-short line; valid = parts-valid (not-improper h (right-commands h p) q); words = λ w. read-first-fits line taken e }
+    record { short = carried-short line; valid = parts-valid (not-improper h (right-commands h p) q); words = λ w. read-first-fits limit line taken e }
 
 -- the held history with the commands of a PROPOSE
-appended-checked : (s : State) (line : List ℕ) → form line ≡ false → validStored (s .held) ≡ true → wrong (carried (received line)) ≡ false
+appended-checked : (s : State) (line : List ℕ) → form line ≡ false → validStored limit (s .held) ≡ true → wrong (carried (received line)) ≡ false
     → length (appended (heldOf s) (carried (received line))) ≤ limit → Checked s (canonical (appended (heldOf s) (carried (received line))))
 appended-checked s line e v p l =
     let h = carried (received line) in
     let all = appended (heldOf s) h in
-    let was = valid-parts (heldOf s) (valid-stored-history (s .held) v) in
+    let was = valid-parts (heldOf s) (valid-stored-history limit (s .held) v) in
     let order = canonical-equivalent all in
     record {
       short = omega (arith, canonical-length all);
@@ -204,7 +204,7 @@ appended-checked s line e v p l =
             distinct = repeated-along order ∙ appended-distinct (heldOf s) h (was .distinct);
             in-order = canonical-is-canonical all;
           });
-      words = λ w. each-along (equivalent-sym order) (each-appended w (read-first-fits line taken e));
+      words = λ w. each-along (equivalent-sym order) (each-appended w (read-first-fits limit line taken e));
     }
 
 -- ---- what a step replies
@@ -296,8 +296,8 @@ module _ {own : ℕ} {v : ViewRecord} {s : State} (f : Fits own v s) where
   -- P1B, VERIFY and P2B of such a state
   p1b-writable : (n : ℕ) (ballot : Ballot) → Lendable n s → ballot .0 < 2 ^ 32 → writable (p1b own s ballot) ≡ true
   p1b-writable n ballot c l =
-      let p = valid-stored-length (s .proven) (c .proven-valid) in
-      let q = valid-stored-length (s .held) (c .held-valid) in
+      let p = valid-stored-length limit (s .proven) (c .proven-valid) in
+      let q = valid-stored-length limit (s .held) (c .held-valid) in
       message-writable 3 own (record { 0 = 0 }) ballot (s .certified) (s .certificate) p q proven-each held-each (lit< tt) (f .own-fits) (lit< tt) l
       (f .certified-fits) (f .certificate-fits) (p1b-proper own ballot (s .certified) (s .certificate) (provenOf s) (heldOf s) p q)
 
@@ -317,7 +317,7 @@ module _ {own : ℕ} {v : ViewRecord} {s : State} (f : Fits own v s) where
       let x = received line in
       let found : (y : Frame) → sends y ≡ sends m → writable y ≡ true → writable m ≡ true = λ y g w. subst (λ z. writable z ≡ true) (sends-same g) w in
       replies (λ o. o .sending ≡ sends m → writable m ≡ true) (λ _ g. absurd (silent-sends g))
-      (λ a g. found _ g (p1b-writable (r .n) (x .ballot) (configured-is r own room v s (a .configured) .lent) (read-ballot-fits line taken (a .framed))))
+      (λ a g. found _ g (p1b-writable (r .n) (x .ballot) (configured-is r own room v s (a .configured) .lent) (read-ballot-fits limit line taken (a .framed))))
       (λ a g. absurd (silent-sends g)) (λ a h c g. found _ g (verify-writable h c))
       (λ a p c g. found _ g (p2b-writable (carried x) _ c (certificate-lt r own room v s (verifiedBy s x) (carried x) (a .configured))))
       (λ a p c g. absurd (silent-sends g)) (λ g. absurd (silent-sends g)) (stepped r own room v s line) e
@@ -344,28 +344,28 @@ keeps-lendable r own room v s line c =
     let n = r .n in
     let member : Accepts r own room v s line → own < n = λ a. seated-is r own room (configured-is r own room v s (a .configured) .seat) .member in
     let opened : (fast : ℕ) → Lendable n (inBallot s (x .ballot) fast) = λ fast.
-    record { held-valid = c .held-valid; proven-valid = c .proven-valid; inside = c .inside; table-valid = valid-empty n } in
+    record { held-valid = c .held-valid; proven-valid = c .proven-valid; inside = c .inside; table-valid = valid-empty limit n } in
     replies (λ o. Lendable n (o .state)) (λ _. c) (λ a. opened 0) (λ a. opened 1)
     (λ a h k.
     record {
-      held-valid = stored-valid h (k .short) (k .valid);
+      held-valid = stored-valid limit h (k .short) (k .short) (k .valid);
       proven-valid = c .proven-valid;
       inside = c .inside;
-      table-valid = valid-stored n (s .verified) own h (c .table-valid) (member a) (k .valid);
+      table-valid = valid-stored limit n (s .verified) own h (k .short) (c .table-valid) (member a) (k .valid);
     })
     (λ a p k.
     record {
       held-valid = c .held-valid;
-      proven-valid = stored-valid (carried x) (k .short) (k .valid);
+      proven-valid = stored-valid limit (carried x) (k .short) (k .short) (k .valid);
       inside = certificate-inside r (verifiedBy s x) (carried x);
-      table-valid = valid-stored n (s .verified) (x .sender) (carried x) (c .table-valid) p (k .valid);
+      table-valid = valid-stored limit n (s .verified) (x .sender) (carried x) (k .short) (c .table-valid) p (k .valid);
     })
     (λ a p k.
     record {
       held-valid = c .held-valid;
       proven-valid = c .proven-valid;
       inside = c .inside;
-      table-valid = valid-stored n (s .verified) (x .sender) (carried x) (c .table-valid) p (k .valid);
+      table-valid = valid-stored limit n (s .verified) (x .sender) (carried x) (k .short) (c .table-valid) p (k .valid);
     })
     c (stepped r own room v s line)
 
@@ -379,8 +379,8 @@ keeps-config r own room v s line e =
 -- and a fresh one passes CONFIG
 fresh-lendable : (n : ℕ) → Lendable n fresh
 fresh-lendable n =
-    let empty = stored-valid [] (omega arith) valid-nil in
-    record { held-valid = empty; proven-valid = empty; inside = beyond-false 0 n .1 (pow-pos n); table-valid = valid-empty n }
+    let empty = stored-valid limit [] (omega arith) (omega arith) valid-nil in
+    record { held-valid = empty; proven-valid = empty; inside = beyond-false 0 n .1 (pow-pos n); table-valid = valid-empty limit n }
 
 pub fresh-config : (r : Roster) (own room : ℕ) (v : ViewRecord) → seated r own room ≡ true → validRecord (r .n) v ≡ true
     → config r own room v fresh ≡ false
@@ -407,7 +407,7 @@ keeps-fits r own room v s line f =
     record {
       own-fits = f .own-fits;
       view-fits = f .view-fits;
-      ballot-fits = read-ballot-fits line taken (a .framed);
+      ballot-fits = read-ballot-fits limit line taken (a .framed);
       held-fits = f .held-fits;
       proven-fits = f .proven-fits;
       certified-fits = f .certified-fits;

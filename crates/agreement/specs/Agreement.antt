@@ -11,7 +11,7 @@ use Rattle.roster.specs.Roster.{validRoster, quorum}
 use Rattle.roster.specs.Sites.{countTo}
 use Rattle.command.specs.Command.{conflict}
 use Rattle.history.specs.History.{Extends, Before, repeated}
-use Rattle.history.specs.Words.{commands}
+use Rattle.history.specs.Words.{limit, commands}
 use Rattle.refusal.specs.declared.Refusal.the-variants.{Split}
 use Rattle.refusal.specs.declared.Answer.the-variants.{Refused}
 use Rattle.frame.specs.Format.{isLine, frameOf}
@@ -51,7 +51,7 @@ fromAcceptor kind = eqb kind 3 || (eqb kind 6 || eqb kind 7)
 
 -- "A frame of a kind acceptors send … naming" site i "as sender"
 pub record Names (line : List ℕ) (i : ℕ) : Type 0 where
-  pub frame : isLine line ≡ true
+  pub frame : isLine limit line ≡ true
   pub kind : fromAcceptor (frameOf line .kind) ≡ true
   pub sender : frameOf line .sender ≡ i
 

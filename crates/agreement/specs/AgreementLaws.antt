@@ -237,7 +237,7 @@ module _ {w : World} (p : Premises w) where
   held-distinct : (j k : ℕ) → repeated (holds w j k) ≡ false
   held-distinct j k =
       let s = run (w .roster) fresh (take k (w .learners j)) in
-      valid-parts (holds w j k) (valid-stored-history (s .learned) (state-fine j k .sound .learned)) .distinct
+      valid-parts (holds w j k) (valid-stored-history limit (s .learned) (state-fine j k .sound .learned)) .distinct
 
   held-compatible : (i j k l : ℕ) → Compatible (holds w i k) (holds w j l)
   held-compatible i j k l = good-compatible p (state-fine i k .good) (state-fine j l .good)

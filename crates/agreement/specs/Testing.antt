@@ -7,6 +7,7 @@ use Prim.Native.Nat.{ℕ, _≤_, _<_}
 use borrow.Author.Tests.{leb-true, ltb-true, lt-ltb}
 use lib.Dec.{leb, ltb}
 use lib.ListN.{take}
+use Rattle.words.specs.Sizes.{limit}
 use Rattle.basics.specs.Bools.{and-left, and-right, or-either, implies}
 use Rattle.roster.specs.declared.Roster.{Roster}
 use Rattle.roster.specs.Roster.{validRoster, quorum}
@@ -37,7 +38,7 @@ isIn line (l ∷ ls) = equal line l || isIn line ls
 unfoldable pub namesHonest : World → List ℕ → Bool
 namesHonest w line =
     let m = frameOf line in
-    isLine line && (fromAcceptor (m .kind) && (ltb (m .sender) (w .roster .n) && w .honest (m .sender)))
+    isLine limit line && (fromAcceptor (m .kind) && (ltb (m .sender) (w .roster .n) && w .honest (m .sender)))
 
 -- whether a line is authentic
 unfoldable pub authentic : World → List ℕ → Bool

@@ -16,7 +16,7 @@ use Rattle.roster.specs.Roster.{quorum}
 use Rattle.roster.specs.Mask.{reaches, withSite}
 use Rattle.history.specs.declared.History.{History}
 use Rattle.words.specs.Sizes.{capacity}
-use Rattle.history.specs.Words.{historyOf, padded, commands, stored}
+use Rattle.history.specs.Words.{limit, historyOf, padded, commands, stored}
 use Rattle.words.specs.WordsLaws.{length-padded, padded-whole}
 use Rattle.history.specs.WordsLaws.{commands-stored, stored-first}
 use Rattle.merge.specs.Merge.{appended, appendedIn}
@@ -64,7 +64,7 @@ module _ (b : List ℕ) (k : ℕ) (h : List ℕ) (n : ℕ) (w : List ℕ) (size 
   pub wide : length w ≡ capacity
   wide = let short = few in rw (q, length-append, ← p, length-drop, size) (omega arith)
 
-  pub lengthened : (y : List ℕ) → y ≡ padded (length (midOf n (length w - n) w)) [] → historyOf n (putMid n (length w - n) w y) ≡ stored (appended (take k b) h)
+  pub lengthened : (y : List ℕ) → y ≡ padded (length (midOf n (length w - n) w)) [] → historyOf (putMid n (length w - n) w y) n ≡ stored (appended (take k b) h)
   lengthened y e =
       let short = few in
       let room = wide in
@@ -74,11 +74,11 @@ module _ (b : List ℕ) (k : ℕ) (h : List ℕ) (n : ℕ) (w : List ℕ) (size 
       let behind : drop (length w - n) (drop n w) ≡ [] = drop-of-length-le (drop n w) {i = length w - n} (rw length-drop (omega arith)) in
       let words : putMid n (length w - n) w y ≡ padded capacity all = rw (take-appended b k h n w p q, e, part, behind, append-nil (padded (capacity - length all) [])) (zeros capacity all (omega (arith, p, short))) in
       let counted : n ≡ min (length all) capacity = omega (arith, p, short) in
-      let whole : historyOf n (putMid n (length w - n) w y) ≡ stored all = λ i. record { count = counted i; words = words i } in
+      let whole : historyOf (putMid n (length w - n) w y) n ≡ stored all = λ i. record { count = counted i; words = words i } in
       whole ∙ ap (λ (j : ℕ). stored (take j (appended (take k b) h))) size ∙ stored-first (appended (take k b) h)
 
 -- d by value, copied over the words b
-pub shortened : (b l : List ℕ) (d : History) (w : List ℕ) → length b ≡ capacity → d ≡ stored l → w ≡ padded (length b) (d .words) → historyOf (d .count) w ≡ stored l
+pub shortened : (b l : List ℕ) (d : History) (w : List ℕ) → length b ≡ capacity → d ≡ stored l → w ≡ padded (length b) (d .words) → historyOf w (d .count) ≡ stored l
 shortened b l d w size e f =
     let again : padded capacity (padded capacity l) ≡ padded capacity l = rw (length-padded capacity l) at (padded-whole (padded capacity l)) in
     let words : w ≡ padded capacity l = f ∙ ap (λ (n : ℕ). padded n (d .words)) size ∙ ap (λ (x : History). padded capacity (x .words)) e ∙ again in
@@ -147,7 +147,7 @@ module _ (r : Roster) (own : ℕ) (s : State) (out : List ℕ) where
 -- ---- a line: f and w are what was read of it, x is the answer, and t tells whether it refuses
 
 module _ (r : Roster) (own : ℕ) (s : State) (line out : List ℕ) (f : Heading) (w : List ℕ) (x : Answer) (t : Bool)
-    (p : readingWith f w ≡ readingOf line taken) (e : x ≡ answer (rulesOn r own (length out) s (readingWith f w))) (g : t ≡ isRefused x) where
+    (p : readingWith f w ≡ readingOf limit line taken) (e : x ≡ answer (rulesOn r own (length out) s (readingWith f w))) (g : t ≡ isRefused x) where
   answer-is : x ≡ answer (rules r own (length out) s line)
   unfolding malformed
   answer-is = subst (λ (d : Reading). x ≡ answer (rulesOn r own (length out) s d)) p e

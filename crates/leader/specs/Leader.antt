@@ -63,7 +63,7 @@ taken = 1048
 
 -- the frame that a line holds
 abbrev pub received : List ℕ → Frame
-received line = readingOf line taken .frame
+received line = readingOf limit line taken .frame
 
 -- the pending commands as a list, and what the checks after CONFIG read of a state beside them
 abbrev pub pendingOf : State → List ℕ
@@ -84,11 +84,11 @@ unfoldable pub config : Roster → ℕ → ℕ → State → Bool
 config r own room s =
     not
     (seated r own room
-    && (validPending limit (s .pending) && (not (beyond (s .reported) (r .n)) && (validTable (r .n) (s .proven) && validTable (r .n) (s .held)))))
+    && (validPending limit (s .pending) && (not (beyond (s .reported) (r .n)) && (validTable limit (r .n) (s .proven) && validTable limit (r .n) (s .held)))))
 
 -- FORM: no line of a kind that a leader takes
 abbrev pub form : List ℕ → Bool
-form line = malformed line taken
+form line = malformed limit line taken
 
 -- PROOF: "a mask bit at N or above, or too few ones", of which N-f are needed
 unfoldable pub unproven : Roster → ℕ → Bool
@@ -127,7 +127,7 @@ abbrev pub reportHeading : Roster → Marks → Frame → List Rule
 reportHeading r k m =
     leb (r .n) (m .sender) gives Sender ∷
     not (awaited r k (m .ballot) (m .sender)) gives Stale ∷
-    unfounded r (m .n) (m .proven) (m .mask) gives Proof ∷ []
+    unfounded r (m .n) (m .«proven_ballot») (m .mask) gives Proof ∷ []
 
 -- P1B with the proven history g and the held one h
 abbrev pub p1bRules : Roster → Marks → Frame → List ℕ → List ℕ → List Rule

@@ -70,7 +70,7 @@ const TAKEN: u16 = 1048;
 
 // Whether pending commands may be lent: no more than the limit, valid, no proposer and serial twice. Their order is free.
 fn pending_valid(limit: u8, words: &[u64; 32], count: u8) -> bool
-    ensures { λ b. ⌜ b ≡ spec.validPending limit (historyOf count (now (words .entry))) ⌝ }
+    ensures { λ b. ⌜ b ≡ spec.validPending limit (historyOf (now (words .entry)) count) ⌝ }
 {
     let fits = count <= limit;
     if !fits {
@@ -98,8 +98,8 @@ fn config<'a>(
     !(site::seated(r, own, room)
         & (pending_valid(words::LIMIT, pending, count)
             & (!roster::beyond(marks.reported, r.n)
-                & (table::rows_valid(proven, proven_counts, r.n)
-                    & table::rows_valid(held, held_counts, r.n)))))
+                & (table::rows_valid(words::LIMIT, proven, proven_counts, r.n)
+                    & table::rows_valid(words::LIMIT, held, held_counts, r.n)))))
 }
 
 // Whether a mask has a bit at N or above, or fewer than N-f ones.
@@ -248,7 +248,7 @@ pub fn step_in_place(
     ensures { λ o. ⌜ ((parts.outcomeOf o (now (pending .exit)) (now (count .exit)) (now (proven .exit)) (now («proven_counts» .exit)) (now (held .exit)) (now («held_counts» .exit))) ≡ spec.returned r own (parts.stateOf marks (now (pending .entry)) (now (count .entry)) (now (proven .entry)) (now («proven_counts» .entry)) (now (held .entry)) (now («held_counts» .entry))) (now (line .entry)) (now (out .entry))) × (now (out .exit) ≡ spec.output r own (parts.stateOf marks (now (pending .entry)) (now (count .entry)) (now (proven .entry)) (now («proven_counts» .entry)) (now (held .entry)) (now («held_counts» .entry))) (now (line .entry)) (now (out .entry))) ⌝ }
 {
     let mut read = [0u64; 64];
-    let head = frame::read_into(line, TAKEN, &mut read);
+    let head = frame::read_into(words::LIMIT, line, TAKEN, &mut read);
     let words = &read;
     let room = out.len();
     let answer = check(

@@ -56,7 +56,7 @@ fn heading(r: Roster, marks: Marks, head: Heading) -> Answer
 {
     let unknown = r.n <= head.sender;
     let stale = !awaited(r, marks, head.ballot, head.sender);
-    let weak = unfounded(r, head.n, head.proven, head.mask);
+    let weak = unfounded(r, head.n, head.proven_ballot, head.mask);
     given(
         unknown,
         Refusal::Sender,
@@ -134,7 +134,7 @@ fn send_p2a(own: u8, view: View, ballot: Ballot, h: &[u64], out: &mut [u8]) -> u
 // Keeps of the pending commands those that h does not hold, and leaves zeros after them.
 fn shorten(pending: &mut [u64], count: &mut u8, h: &[u64])
     requires { ⌜ length (now pending) ≡ 32 ⌝ }
-    ensures { λ u. ⌜ historyOf (now (count .exit)) (now (pending .exit)) ≡ stored (remaining (take (now (count .entry)) (now (pending .entry))) (now (h .entry))) ⌝ }
+    ensures { λ u. ⌜ historyOf (now (pending .exit)) (now (count .exit)) ≡ stored (remaining (take (now (count .entry)) (now (pending .entry))) (now (h .entry))) ⌝ }
 {
     let present = *count;
     let all: &[u64] = pending;

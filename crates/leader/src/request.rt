@@ -51,7 +51,7 @@ pub(crate) fn check<'a>(pending: &'a [u64], head: Heading, h: &'a [u64]) -> Answ
 // Appends to the pending commands those of h that are not there yet, up to 32, and leaves zeros after them.
 pub(crate) fn lengthen(pending: &mut [u64], count: &mut u8, h: &[u64])
     requires { ⌜ length (now pending) ≡ 32 ⌝ }
-    ensures { λ u. ⌜ historyOf (now (count .exit)) (now (pending .exit)) ≡ stored (appended (take (now (count .entry)) (now (pending .entry))) (now (h .entry))) ⌝ }
+    ensures { λ u. ⌜ historyOf (now (pending .exit)) (now (count .exit)) ≡ stored (appended (take (now (count .entry)) (now (pending .entry))) (now (h .entry))) ⌝ }
 {
     let present = *count;
     let n = merge::append(pending, present as usize, h);

@@ -350,8 +350,8 @@ pending-stored limit h c l a u =
 pub record Lendable (n : ℕ) (s : State) : Type 0 where
   pub pending-valid : validPending limit (s .pending) ≡ true
   pub inside : beyond (s .reported) n ≡ false
-  pub proven-valid : validTable n (s .proven) ≡ true
-  pub held-valid : validTable n (s .held) ≡ true
+  pub proven-valid : validTable limit n (s .proven) ≡ true
+  pub held-valid : validTable limit n (s .held) ≡ true
 
 pub record Configured (r : Roster) (own room : ℕ) (s : State) : Type 0 where
   pub seat : seated r own room ≡ true
@@ -370,8 +370,8 @@ configured-is r own room s e =
       lent = record {
         pending-valid = and-left (validPending limit (s .pending)) _ b;
         inside = not-true (beyond (s .reported) (r .n)) (and-left outside _ c);
-        proven-valid = and-left (validTable (r .n) (s .proven)) _ d;
-        held-valid = and-right (validTable (r .n) (s .proven)) _ d;
+        proven-valid = and-left (validTable limit (r .n) (s .proven)) _ d;
+        held-valid = and-right (validTable limit (r .n) (s .proven)) _ d;
       };
     }
 
@@ -384,10 +384,10 @@ is-configured r own room s c =
 
 -- a line carries at most 32 commands in each list
 pub first-short : (line : List ℕ) → length (first (received line)) ≤ limit
-first-short line = rw length-take (omega (arith, read-n line taken))
+first-short line = rw length-take (omega (arith, read-n limit line taken))
 
 pub second-short : (line : List ℕ) → length (second (received line)) ≤ limit
-second-short line = rw length-take (omega (arith, read-m line taken))
+second-short line = rw length-take (omega (arith, read-m limit line taken))
 
 -- right commands in order are a valid history
 in-order : (h : List ℕ) → wrong h ≡ false → disordered h ≡ false → validHistory h ≡ true
@@ -417,8 +417,8 @@ module _ {r : Roster} {own room : ℕ} {s : State} {line : List ℕ} (a : Report
       record {
         pending-valid = c .pending-valid;
         inside = with-inside (r .n) (s .reported) (m .sender) site (c .inside);
-        proven-valid = valid-stored (r .n) (s .proven) (m .sender) (first m) (c .proven-valid) site first-valid;
-        held-valid = valid-stored (r .n) (s .held) (m .sender) (second m) (c .held-valid) site second-valid;
+        proven-valid = valid-stored limit (r .n) (s .proven) (m .sender) (first m) (first-short line) (c .proven-valid) site first-valid;
+        held-valid = valid-stored limit (r .n) (s .held) (m .sender) (second m) (second-short line) (c .held-valid) site second-valid;
       }
 
 -- the commands of an accepted PROPOSE leave no more pending than the limit
@@ -481,9 +481,9 @@ unfolding proposed
 proposed-short r s = proposals.proposal-short (r .n) (reportIn s (s .proven)) (reportIn s (s .held)) (pendingOf s)
 
 -- every report in a valid table is a valid history
-reports-valid : (n : ℕ) (s : State) (t : Table) → n ≤ sites → validTable n t ≡ true → (i : ℕ) → i < n → validHistory (reportIn s t i) ≡ true
+reports-valid : (n : ℕ) (s : State) (t : Table) → n ≤ sites → validTable limit n t ≡ true → (i : ℕ) → i < n → validHistory (reportIn s t i) ≡ true
 reports-valid n s t l e i p =
-    report-keeps (t .words) (t .counts) (s .reported) i (λ h. validHistory h ≡ true) valid-nil (valid-history n t e i (omega arith))
+    report-keeps (t .words) (t .counts) (s .reported) i (λ h. validHistory h ≡ true) valid-nil (valid-history limit n t e i (omega arith))
 
 -- of a state that may be lent, it is a valid history
 pub proposal-valid-of : (r : Roster) (s : State) → r .n ≤ sites → Lendable (r .n) s → validHistory (proposed r s) ≡ true

@@ -145,8 +145,8 @@ report-fits {s = s} line e f =
       view-fits = f .view-fits;
       ballot-fits = f .ballot-fits;
       pending-fits = f .pending-fits;
-      proven-fits = each-stored (s .proven) (m .sender) (f .proven-fits) (read-first-fits line taken e);
-      held-fits = each-stored (s .held) (m .sender) (f .held-fits) (read-second-fits line taken e);
+      proven-fits = each-stored (s .proven) (m .sender) (f .proven-fits) (read-first-fits limit line taken e);
+      held-fits = each-stored (s .held) (m .sender) (f .held-fits) (read-second-fits limit line taken e);
     }
 
 module _ {own : ℕ} {s : State} (f : Fits own s) where
@@ -273,8 +273,8 @@ opening-lendable r own room s ballot fast c =
     record {
       pending-valid = c .pending-valid;
       inside = beyond-false 0 n .1 (pow-pos n);
-      proven-valid = valid-empty n;
-      held-valid = valid-empty n;
+      proven-valid = valid-empty limit n;
+      held-valid = valid-empty limit n;
     })
     (opened r own room s ballot fast)
 
@@ -292,8 +292,8 @@ fresh-lendable n =
     record {
       pending-valid = pending-stored limit [] (omega arith) (omega arith) (empty .commands) (empty .distinct);
       inside = beyond-false 0 n .1 (pow-pos n);
-      proven-valid = valid-empty n;
-      held-valid = valid-empty n;
+      proven-valid = valid-empty limit n;
+      held-valid = valid-empty limit n;
     }
 
 pub fresh-config : (r : Roster) (own room : ℕ) → seated r own room ≡ true → config r own room fresh ≡ false
@@ -329,11 +329,11 @@ keeps-fits r own room s line f =
     let after : Reports r own room s line → Fits own (concluded r t) = λ a.
     waiting-fits (report-fits line (a .framed) f) (remaining-fits (proposed r t) (pending-each f)) in
     replies (λ o. Fits own (o .state)) (λ _. f) (λ a. report-fits line (a .framed) f) (λ a p q. after a) (λ a p. after a)
-    (λ a. waiting-fits f (each-appended (pending-each f) (read-first-fits line taken (a .framed))))
+    (λ a. waiting-fits f (each-appended (pending-each f) (read-first-fits limit line taken (a .framed))))
     (λ a.
     record {
       own-fits = f .own-fits;
-      view-fits = read-view-fits line taken (a .framed);
+      view-fits = read-view-fits limit line taken (a .framed);
       ballot-fits = f .ballot-fits;
       pending-fits = f .pending-fits;
       proven-fits = f .proven-fits;

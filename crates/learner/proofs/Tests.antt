@@ -18,7 +18,7 @@ use Rattle.roster.specs.SitesLaws.{count-cong, lt-or-le}
 use Rattle.history.specs.History.{Equivalent, Extends, extends}
 use Rattle.history.specs.TakesLaws.{equivalent-sym, equivalent-length}
 use Rattle.history.specs.ExtensionLaws.{extends-refl, extends-along, extends-length, extends-sound, extends-complete, extends-refuted}
-use Rattle.history.specs.Words.{extendsWithin}
+use Rattle.history.specs.Words.{limit, extendsWithin}
 use Rattle.history.specs.WordsLaws.{extends-within}
 use Rattle.merge.specs.declared.Merged.{Merged}
 use Rattle.table.specs.declared.Table.{Table}
@@ -153,7 +153,7 @@ judged-on refuse accepted [] b passed = refl
 judged-on refuse accepted (test gives r ∷ a) b (pass f n) = rw f (judged-on refuse accepted a b n)
 
 module _ (r : Roster) (s : State) (z : Sized (s .entries)) (line : List ℕ) (head : Heading) (w : List ℕ) (x : Answer) (b : Bool)
-    (f : readingWith head w ≡ readingOf line taken) (a : x ≡ answer (checks r s (readingWith head w))) (g : b ≡ isRefused x) where
+    (f : readingWith head w ≡ readingOf limit line taken) (a : x ≡ answer (checks r s (readingWith head w))) (g : b ≡ isRefused x) where
   merge-checks : List Rule
   merge-checks = mergeRules (mergeOf r (withVote (s .entries) (vote line .sender) (arrived (vote line))) s (arrived (vote line)))
 
@@ -161,7 +161,7 @@ module _ (r : Roster) (s : State) (z : Sized (s .entries)) (line : List ℕ) (he
   unfolding step malformed merge-checks
   steps-refused c =
       judged-refused (refuse s) (accepted r s (vote line .sender) (arrived (vote line))) (rules r s line) x
-      (stops (checks r s (readingOf line taken)) merge-checks (subst (λ (d : Reading). x ≡ answer (checks r s d)) f a) g c) (sym g ∙ c)
+      (stops (checks r s (readingOf limit line taken)) merge-checks (subst (λ (d : Reading). x ≡ answer (checks r s d)) f a) g c) (sym g ∙ c)
       (λ (y : Answer) (o : Outcome). record { answer = y; supporters = 0; state = s } ≡ o) (λ (q : Refusal). refl)
 
   none : b ≡ false → NoneHolds (checks r s (readingWith head w))
@@ -174,7 +174,7 @@ module _ (r : Roster) (s : State) (z : Sized (s .entries)) (line : List ℕ) (he
       let few = valid-figures r (config-sound z (no-test n Config) .roster) .max-sites in
       record {
         inside = omega (arith, leb-false (r .n) (head .sender) (no-test n Sender), few);
-        short = rw length-take (omega (arith, ap (λ (o : Reading). o .frame .n) f, read-n line taken));
+        short = rw length-take (omega (arith, ap (λ (o : Reading). o .frame .n) f, read-n limit line taken));
         agrees = no-test n Contradiction;
       }
 
@@ -182,5 +182,5 @@ module _ (r : Roster) (s : State) (z : Sized (s .entries)) (line : List ℕ) (he
   unfolding step malformed merge-checks
   steps-concluded c =
       subst (λ (d : Reading). concluded r s (d .frame .sender) (arrived (d .frame)) ≡ step r s line) (sym f)
-      (sym (judged-on (refuse s) (accepted r s (vote line .sender) (arrived (vote line))) (checks r s (readingOf line taken)) merge-checks
+      (sym (judged-on (refuse s) (accepted r s (vote line .sender) (arrived (vote line))) (checks r s (readingOf limit line taken)) merge-checks
       (subst (λ (d : Reading). NoneHolds (checks r s d)) f (none c))))

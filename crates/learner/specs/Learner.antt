@@ -35,7 +35,7 @@ fresh = record { entries = emptyTable; learned = stored [] }
 -- CONFIG: a roster outside the figures; a count over 32, a wrong command, a repeated proposer and serial or an order that is not canonical
 -- in an entry or in what is learned; an entry at N or above
 unfoldable pub config : Roster → State → Bool
-config r s = not (validRoster r && (validTable (r .n) (s .entries) && validStored (s .learned)))
+config r s = not (validRoster r && (validTable limit (r .n) (s .entries) && validStored limit (s .learned)))
 
 -- the one kind that a learner takes, P2B, as a set of kinds: bit 7
 abbrev pub taken : ℕ
@@ -43,11 +43,11 @@ taken = 128
 
 -- FORM: no line of a kind that the learner takes
 abbrev pub form : List ℕ → Bool
-form line = malformed line taken
+form line = malformed limit line taken
 
 -- the vote that a line holds, and the history that it carries
 abbrev pub vote : List ℕ → Frame
-vote line = readingOf line taken .frame
+vote line = readingOf limit line taken .frame
 
 abbrev pub arrived : Frame → List ℕ
 arrived v = first v

@@ -9,7 +9,7 @@ use Rattle.learner.specs.declared.Answered.{Answered}
 
 -- a state of these parts: the entries' words and counts, and the words and count of what is learned
 abbrev pub stateOf : List ℕ → List ℕ → List ℕ → ℕ → State
-stateOf words counts learned count = record { entries = tableOf words counts; learned = historyOf count learned }
+stateOf words counts learned count = record { entries = tableOf words counts; learned = historyOf learned count }
 
 -- what a call in place gives, with the state that it leaves
 abbrev pub outcomeOf : Answered → State → Outcome

@@ -32,7 +32,7 @@ use Rattle.learner.specs.Run.{run, outcomes, Voted, now, later}
 
 -- a fresh learner of a valid roster is sound
 pub fresh-sound : (r : Roster) → validRoster r ≡ true → Sound r fresh
-fresh-sound r e = record { sized = empty-sized; roster = e; entries = valid-empty (r .n); learned = stored-valid [] (omega arith) valid-nil }
+fresh-sound r e = record { sized = empty-sized; roster = e; entries = valid-empty limit (r .n); learned = stored-valid limit [] (omega arith) (omega arith) valid-nil }
 
 -- from a sound state, what is learned and each entry only grow by extension, and the state stays sound
 pub run-advance : {r : Roster} {s : State} → Sound r s → (lines : List (List ℕ)) → Advance r s (run r s lines)
@@ -116,8 +116,8 @@ kept-fit {r} {s} p more =
     record {
       learned-grows = a .learned-grows;
       entries-grow = a .entries-grow;
-      canonical = valid-parts (commands (run r s more .learned)) (valid-stored-history (run r s more .learned) v) .in-order;
-      short = valid-stored-length (run r s more .learned) v;
+      canonical = valid-parts (commands (run r s more .learned)) (valid-stored-history limit (run r s more .learned) v) .in-order;
+      short = valid-stored-length limit (run r s more .learned) v;
     }
 
 kept-still : Kept fresh fresh
@@ -125,12 +125,12 @@ kept-still =
     record {
       learned-grows = extends-refl (commands (fresh .learned));
       entries-grow = λ i. extends-refl (rowOf (fresh .entries) i);
-      canonical = valid-parts (commands (fresh .learned)) (valid-stored-history (fresh .learned) fresh-learned) .in-order;
-      short = valid-stored-length (fresh .learned) fresh-learned;
+      canonical = valid-parts (commands (fresh .learned)) (valid-stored-history limit (fresh .learned) fresh-learned) .in-order;
+      short = valid-stored-length limit (fresh .learned) fresh-learned;
     }
   where
-    fresh-learned : validStored (fresh .learned) ≡ true
-    fresh-learned = stored-valid [] (omega arith) valid-nil
+    fresh-learned : validStored limit (fresh .learned) ≡ true
+    fresh-learned = stored-valid limit [] (omega arith) (omega arith) valid-nil
 
 pub run-keeps : (r : Roster) (lines more : List (List ℕ)) → Kept (run r fresh lines) (run r fresh (lines ++ more))
 run-keeps r lines more = ⊎-elim fit unfit (true-or-false (validRoster r))

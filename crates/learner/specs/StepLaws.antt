@@ -117,19 +117,19 @@ rules-follow r s line = refl
 pub record Sound (r : Roster) (s : State) : Type 0 where
   pub sized : Sized (s .entries)
   pub roster : validRoster r ≡ true
-  pub entries : validTable (r .n) (s .entries) ≡ true
-  pub learned : validStored (s .learned) ≡ true
+  pub entries : validTable limit (r .n) (s .entries) ≡ true
+  pub learned : validStored limit (s .learned) ≡ true
 
 pub config-sound : {r : Roster} {s : State} → Sized (s .entries) → config r s ≡ false → Sound r s
 unfolding config
 config-sound {r} {s} z e =
-    let whole = not-false (validRoster r && (validTable (r .n) (s .entries) && validStored (s .learned))) e in
+    let whole = not-false (validRoster r && (validTable limit (r .n) (s .entries) && validStored limit (s .learned))) e in
     let rest = and-right (validRoster r) _ whole in
     record {
       sized = z;
       roster = and-left (validRoster r) _ whole;
-      entries = and-left (validTable (r .n) (s .entries)) _ rest;
-      learned = and-right (validTable (r .n) (s .entries)) _ rest;
+      entries = and-left (validTable limit (r .n) (s .entries)) _ rest;
+      learned = and-right (validTable limit (r .n) (s .entries)) _ rest;
     }
 
 -- a roster outside the figures is CONFIG in any state, and CONFIG comes before all else
@@ -157,7 +157,7 @@ taken-is k =
 -- a line that FORM lets pass is a frame's, so its n is at most 32
 pub vote-count : (line : List ℕ) → form line ≡ false → vote line .n ≤ limit
 unfolding malformed
-vote-count line e = found-n line taken (not-false (readingOf line taken .found) e)
+vote-count line e = found-n limit line taken (not-false (readingOf limit line taken .found) e)
 
 -- the arrived history of an accepted vote
 pub record Arrived (h : List ℕ) : Type 0 where
@@ -213,9 +213,9 @@ module _ {t : Table} (z : Sized t) (site : ℕ) (h : List ℕ) (inside : site < 
   vote-sized =
       ⊎-elim (λ p. rw (vote-stored t site h p) (stored-sized z site h)) (λ p. rw (vote-stays t site h p) z) (true-or-false (extends h (rowOf t site)))
 
-  pub vote-valid : (n : ℕ) → validTable n t ≡ true → site < n → validHistory h ≡ true → validTable n (withVote t site h) ≡ true
+  pub vote-valid : (n : ℕ) → validTable limit n t ≡ true → site < n → validHistory h ≡ true → validTable limit n (withVote t site h) ≡ true
   vote-valid n v q w =
-      ⊎-elim (λ p. rw (vote-stored t site h p) (valid-stored n t site h v q w)) (λ p. rw (vote-stays t site h p) v)
+      ⊎-elim (λ p. rw (vote-stored t site h p) (valid-stored limit n t site h short v q w)) (λ p. rw (vote-stays t site h p) v)
       (true-or-false (extends h (rowOf t site)))
 
 -- ---- what is learned
@@ -224,7 +224,7 @@ module _ {t : Table} (z : Sized t) (site : ℕ) (h : List ℕ) (inside : site < 
 record Learned (g h : List ℕ) (m : Merged) : Type 0 where
   grown : Extends (commands (m .history)) g
   holds : Extends (commands (m .history)) h
-  valid : validStored (m .history) ≡ true
+  valid : validStored limit (m .history) ≡ true
 
 learned-merge : (g h : List ℕ) → ValidHistory g → length g ≤ limit → Arrived h → merged limit g h .split ≡ false → merged limit g h .full ≡ false
     → Learned g h (merged limit g h)
@@ -238,7 +238,7 @@ learned-merge g h p q a x y = go (merged-answers limit g h q (a .short) (a .vali
         (record {
           grown = rw (commands-stored m n) (k .common .left);
           holds = rw (commands-stored m n) (k .common .right);
-          valid = stored-valid m n (parts-valid (is-merge-valid p (a .valid) k));
+          valid = stored-valid limit m n n (parts-valid (is-merge-valid p (a .valid) k));
         })
 
 -- the merge of what is learned and the claims: that with the arrived history where it is claimed, else what is learned
@@ -252,14 +252,14 @@ module _ (r : Roster) (t : Table) (s : State) (h : List ℕ) where
   merge-unclaimed e = rw e
 
 -- the state after an accepted vote, of which t are the entries
-module _ (r : Roster) (t : Table) (s : State) (h : List ℕ) (p : validStored (s .learned) ≡ true) (a : Arrived h)
+module _ (r : Roster) (t : Table) (s : State) (h : List ℕ) (p : validStored limit (s .learned) ≡ true) (a : Arrived h)
     (x : mergeOf r t s h .split ≡ false) (y : mergeOf r t s h .full ≡ false) where
   claim-merged : claimed r t h ≡ true → Learned (commands (s .learned)) h (mergeOf r t s h)
   claim-merged e =
       let l = commands (s .learned) in
       let m = merge-claimed r t s h e in
       subst (λ (k : Merged). Learned l h k) (sym m)
-      (learned-merge l h (valid-parts l (valid-stored-history (s .learned) p)) (valid-stored-length (s .learned) p) a
+      (learned-merge l h (valid-parts l (valid-stored-history limit (s .learned) p)) (valid-stored-length limit (s .learned) p) a
       (sym (ap (λ (k : Merged). k .split) m) ∙ x) (sym (ap (λ (k : Merged). k .full) m) ∙ y))
 
   same-learned : claimed r t h ≡ false → after r t s h .learned ≡ s .learned
@@ -274,8 +274,8 @@ module _ (r : Roster) (t : Table) (s : State) (h : List ℕ) (p : validStored (s
   pub after-holds : claimed r t h ≡ true → Extends (commands (after r t s h .learned)) h
   after-holds e = claim-merged e .holds
 
-  pub after-valid : validStored (after r t s h .learned) ≡ true
-  after-valid = ⊎-elim (λ e. claim-merged e .valid) (λ e. ap validStored (same-learned e) ∙ p) (true-or-false (claimed r t h))
+  pub after-valid : validStored limit (after r t s h .learned) ≡ true
+  after-valid = ⊎-elim (λ e. claim-merged e .valid) (λ e. ap (validStored limit) (same-learned e) ∙ p) (true-or-false (claimed r t h))
 
 -- ---- one step
 

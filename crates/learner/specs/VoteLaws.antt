@@ -50,20 +50,20 @@ pub accepted-heard : {r : Roster} {s : State} {line : List ℕ} → Accepts r s 
 accepted-heard a = record { framed = a .framed; from-site = a .from-site; right = a .right; proper = a .proper }
 
 module _ {r : Roster} {line : List ℕ} (a : Heard r line) where
-  found : readingOf line taken .found ≡ true
+  found : readingOf limit line taken .found ≡ true
   unfolding malformed
-  found = not-false (readingOf line taken .found) (a .framed)
+  found = not-false (readingOf limit line taken .found) (a .framed)
 
   -- it is a line, and the vote is its frame
-  pub heard-line : isLine line ≡ true
-  heard-line = found-line line taken found
+  pub heard-line : isLine limit line ≡ true
+  heard-line = found-line limit line taken found
 
   pub heard-frame : vote line ≡ frameOf line
-  heard-frame = found-frame line taken found
+  heard-frame = found-frame limit line taken found
 
   -- a P2B, from one of the sites
   pub heard-kind : vote line .kind ≡ 7
-  heard-kind = ap (λ (m : Frame). m .kind) heard-frame ∙ eqb-true (frameOf line .kind) 7 (sym (taken-is (frameOf line .kind)) ∙ found-taken line taken found)
+  heard-kind = ap (λ (m : Frame). m .kind) heard-frame ∙ eqb-true (frameOf line .kind) 7 (sym (taken-is (frameOf line .kind)) ∙ found-taken limit line taken found)
 
   pub heard-sender : vote line .sender < r .n
   heard-sender = leb-false (r .n) (vote line .sender) (a .from-site)
@@ -122,7 +122,7 @@ module _ {r : Roster} {s : State} (p : Sound r s) {line : List ℕ} (a : Heard r
   merge-is : Answers limit (commands (s .learned)) (arrived (vote line))
   merge-is =
       let v = heard-arrived a in
-      merged-answers limit (commands (s .learned)) (arrived (vote line)) (valid-stored-length (s .learned) (p .learned)) (v .short) (v .valid .distinct)
+      merged-answers limit (commands (s .learned)) (arrived (vote line)) (valid-stored-length limit (s .learned) (p .learned)) (v .short) (v .valid .distinct)
 
 pub accepted-learns : {r : Roster} {s : State} {line : List ℕ} → Sound r s → Accepts r s line → Learns r s line
 accepted-learns {r} {s} {line} p a = go (claimed r t h) refl (merge-is p (accepted-heard a))

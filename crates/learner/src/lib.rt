@@ -51,11 +51,11 @@ fn config<'a>(r: Roster, words: &'a [u64], counts: &'a [u8], past: &[u64], count
     if !figures {
         return true;
     }
-    let rows = table::rows_valid(words, counts, r.n);
+    let rows = table::rows_valid(words::LIMIT, words, counts, r.n);
     if !rows {
         return true;
     }
-    let kept = history::lendable(count, past);
+    let kept = history::lendable(words::LIMIT, past, count);
     !kept
 }
 
@@ -166,7 +166,7 @@ fn supporters<'a>(words: &'a [u64], counts: &'a [u8], n: u8, site: u8, h: &[u64]
 
 // The merge of what is learned and the claims: of h, if its k supporters are N-f or more.
 fn merge_claims(r: Roster, k: u8, learned: &[u64; 32], count: u8, h: &[u64]) -> Merged
-    ensures { λ m. ⌜ m ≡ spec.merging (historyOf count (now (learned .entry))) (cond (leb (quorum r) k) (now (h .entry) ∷ []) []) ⌝ }
+    ensures { λ m. ⌜ m ≡ spec.merging (historyOf (now (learned .entry)) count) (cond (leb (quorum r) k) (now (h .entry) ∷ []) []) ⌝ }
 {
     let enough = r.quorum() <= k as u32;
     if enough {
@@ -252,7 +252,7 @@ pub fn step_in_place(
     ensures { λ o. ⌜ parts.outcomeOf o (parts.stateOf (now (words .exit)) (now (counts .exit)) (now (learned .exit)) (now (count .exit))) ≡ spec.step r (parts.stateOf (now (words .entry)) (now (counts .entry)) (now (learned .entry)) (now (count .entry))) (now (line .entry)) ⌝ }
 {
     let mut carried = [0u64; 64];
-    let head = frame::read_into(line, TAKEN, &mut carried);
+    let head = frame::read_into(words::LIMIT, line, TAKEN, &mut carried);
     let answer = check(r, words, counts, learned, *count, head, &carried);
     let stops = answer.refuses();
     if stops {

@@ -39,7 +39,7 @@ fn show(h: &[u64]) {
 
 fn show_history(h: History) {
     let n = h.count as usize;
-    if n <= History::LIMIT {
+    if n <= words::CAPACITY {
         let w: &[u64] = &h.words;
         show(&w[..n]);
     }

@@ -6,6 +6,7 @@ use Prim.Native.Nat.{ℕ}
 use borrow.Author.Tests.{eqb-true}
 use lib.Dec.{eqb}
 use lib.ListN.{length}
+use Rattle.words.specs.Sizes.{limit}
 use Rattle.roster.specs.declared.Roster.{Roster}
 use Rattle.refusal.specs.declared.Refusal.{Refusal}
 use Rattle.refusal.specs.declared.Refusal.the-variants.{Config, Full}
@@ -51,7 +52,7 @@ module _ (r : Roster) (own : ℕ) (v : ViewRecord) (line out : List ℕ) (b : Bo
   unfolding step judged
   step-config h = let unfit = sym e ∙ h in (rw unfit, rw unfit)
 
-  pub step-read : b ≡ false → (d : Reading) → d ≡ readingOf line taken → (o : Outcome) (l : List ℕ) → Done (replied r own v d) out o l
+  pub step-read : b ≡ false → (d : Reading) → d ≡ readingOf limit line taken → (o : Outcome) (l : List ℕ) → Done (replied r own v d) out o l
       → Done (step r own (length out) v line) out o l
   unfolding step replied judged malformed
   step-read h d f o l p = rw (sym e ∙ h) (subst (λ (x : Reading). Done (replied r own v x) out o l) f p)

@@ -4,6 +4,7 @@ use mathlib.Core.List.{List, [], _∷_}
 use Prim.Native.Nat.{ℕ, _+_}
 use lib.Dec.{leb, eqb}
 use lib.ListN.{length}
+use Rattle.words.specs.Sizes.{limit}
 use Rattle.roster.specs.declared.Roster.{Roster}
 use Rattle.roster.specs.declared.View.{View}
 use Rattle.roster.specs.Roster.{quorum, weakCertificate}
@@ -45,7 +46,7 @@ kindOf k = cond (eqb k suspicionKind) SUSPICION VIEWCHANGE
 
 -- the frame that a line holds
 abbrev pub received : List ℕ → Frame
-received line = readingOf line taken .frame
+received line = readingOf limit line taken .frame
 
 -- a frame of this kind from `own` for a view, with a mask and no commands
 abbrev pub notice : ℕ → ℕ → View → ℕ → Frame
@@ -59,7 +60,7 @@ config r own room v = not (seated r own room && validRecord (r .n) v)
 
 -- FORM: no line of a kind that is taken here
 abbrev pub form : List ℕ → Bool
-form line = malformed line taken
+form line = malformed limit line taken
 
 -- SENDER: sender ≥ N
 abbrev pub sender : Roster → ℕ → Bool

@@ -10,6 +10,7 @@ use borrow.Author.Tests.{leb-false, ltb-true, lt-leb, lt-ltb, eqb-true, ne-eqb, 
 use lib.Count.{ones, onesIn}
 use lib.Dec.{eqb, lit<}
 use lib.ListN.{length}
+use Rattle.words.specs.Sizes.{limit}
 use Rattle.basics.specs.Bools.{true-or-false, and-left, and-right, or-left, beq-true, everyBelow}
 use Rattle.words.specs.Words.{padded}
 use Rattle.roster.specs.declared.Roster.{Roster}
@@ -142,10 +143,10 @@ bare-taken = refl
 pub received-change : (line : List ℕ) → form line ≡ false → eqb (received line .kind) suspicionKind ≡ false → received line .kind ≡ changeKind
 unfolding malformed
 received-change line e p =
-    let found = not-false (readingOf line taken .found) e in
-    let either = sym (taken-is (frameOf line .kind)) ∙ found-taken line taken found in
+    let found = not-false (readingOf limit line taken .found) e in
+    let either = sym (taken-is (frameOf line .kind)) ∙ found-taken limit line taken found in
     eqb-true (received line .kind) changeKind
-    (rw p at (subst (λ (m : Frame). (eqb (m .kind) suspicionKind || eqb (m .kind) changeKind) ≡ true) (sym (found-frame line taken found)) either))
+    (rw p at (subst (λ (m : Frame). (eqb (m .kind) suspicionKind || eqb (m .kind) changeKind) ≡ true) (sym (found-frame limit line taken found)) either))
 
 -- what an accepted frame does: a SUSPICION is noted, or sets the target; a VIEWCHANGE restarts the target, joins it, or moves to it
 pub data Effect (r : Roster) (own : ℕ) (v : ViewRecord) (m : Frame) : Kind → Reply ViewRecord → Type 0 where
@@ -235,9 +236,9 @@ module _ (own : ℕ) (view : View) (a : own < 256) (b : view .0 < 2 ^ 32) where
   own-taken : bit taken (own-frame .kind) ≡ true
   own-taken = taken-is suspicionKind
 
-  pub own-read : readingOf (ownSuspicion own view) taken ≡ record { found = true; frame = own-frame }
+  pub own-read : readingOf limit (ownSuspicion own view) taken ≡ record { found = true; frame = own-frame }
   own-read =
-      reading-line (ownSuspicion own view) taken (line-is-line own-frame own-writable) (rw (frame-of-line own-frame own-writable) own-taken)
+      reading-line limit (ownSuspicion own view) taken (line-is-line limit own-frame own-writable (omega arith) (omega arith)) (rw (frame-of-line own-frame own-writable) own-taken)
       ∙ ap (λ (m : Frame). record { found = true; frame = m }) (frame-of-line own-frame own-writable)
 
 -- the next view fits where FULL lets pass
@@ -260,7 +261,7 @@ module _ {own : ℕ} {v : ViewRecord} (f : Fits own v) where
       let x = received line in
       sends-each (λ m. writable m ≡ true)
       (λ a n p. change-writable own _ _ (f .own-fits) (next-fits r v x n p) (suspected-fits (x .sender)))
-      (λ a. change-writable own _ _ (f .own-fits) (read-view-fits line taken (a .framed)) (read-mask-fits line taken (a .framed)))
+      (λ a. change-writable own _ _ (f .own-fits) (read-view-fits limit line taken (a .framed)) (read-mask-fits limit line taken (a .framed)))
       (λ a. leader-writable own _ _ (f .own-fits) (f .target-fits) (changed-fits (x .sender))) (stepped r own room v line) h
 
 -- a step that sends has passed CONFIG, so there is room, and what is sent is the frame's line
@@ -317,7 +318,7 @@ keeps-fits r own room v line f =
     record {
       own-fits = f .own-fits;
       view-fits = f .view-fits;
-      target-fits = read-view-fits line taken (a .framed);
+      target-fits = read-view-fits limit line taken (a .framed);
       suspicions-fit = f .suspicions-fit;
       changes-fit = with-fits (withSite 0 site) own (with-fits 0 site (lit< tt));
     })

@@ -299,7 +299,7 @@ pub fn suspicion(r: Roster, own: u8, v: ViewRecord, view: View, out: &mut [u8]) 
         sender: own,
         view,
         ballot: Ballot(0),
-        proven: Ballot(0),
+        proven_ballot: Ballot(0),
         mask: 0,
         n: 0,
         m: 0,

@@ -1,6 +1,7 @@
 -- `acceptor::step_in_place` meets its contract: the checks answer by the rules of the line; a refusal leaves all as it is, and an accepted frame is performed.
 -- Assumes nothing.
 use mathlib.Core.Path.{ap}
+use Rattle.words.specs.Sizes.{limit}
 use Rattle.frame.specs.declared.Reading.{Reading}
 use Rattle.frame.specs.FormatLaws.{read-n}
 use Rattle.acceptor.specs.Acceptor.{taken}
@@ -14,7 +15,7 @@ read-into-requires : tie.Need-read-into-requires
 read-into-requires c κs = search needs
 
 check-requires : tie.Need-check-requires
-check-requires c κs = rw (ap (λ (o : Reading). o .frame .n) (c .before .before .before .before .before .before .before .read-into .ensures)) (read-n (c .before .before .before .before .before .before .before .before .before .before .before .args .line .now) taken)
+check-requires c κs = rw (ap (λ (o : Reading). o .frame .n) (c .before .before .before .before .before .before .before .read-into .ensures)) (read-n limit (c .before .before .before .before .before .before .before .before .before .before .before .args .line .now) taken)
 
 refuses-requires : tie.Need-refuses-requires
 refuses-requires c κs = search needs

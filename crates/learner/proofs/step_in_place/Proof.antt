@@ -21,21 +21,21 @@ returns : tie.Need-returns
 returns c =
     let s = stateOf (c .before .before .before .before .before .before .before .before .before .before .before .before .before .before .args .words .now) (c .before .before .before .before .before .before .before .before .before .before .before .before .before .before .args .counts .now) (c .before .before .before .before .before .before .before .before .before .before .before .before .before .before .args .learned .now) (c .before .before .before .before .before .before .before .before .before .before .before .before .before .before .args .count .now) in
     let sized : Sized (s .entries) = record { counts-length = search needs; words-length = search needs } in
-    steps-refused (c .before .before .before .before .before .before .before .before .before .before .before .before .before .before .args .r) s sized (c .before .before .before .before .before .before .before .before .before .before .before .before .before .before .args .line .now) (c .before .before .before .before .before .before .before .before .before .before .before .read-into .result) (c .before .before .before .before .before .before .before .before .before .before .before .read-into .last .1 .1 .0) (c .before .before .check .result) (c .before .refuses .result)
+    steps-refused (c .before .before .before .before .before .before .before .before .before .before .before .before .before .before .args .r) s sized (c .before .before .before .before .before .before .before .before .before .before .before .before .before .before .args .line .now) (c .before .before .before .before .before .before .before .before .before .before .before .read-into .result) (c .before .before .before .before .before .before .before .before .before .before .before .read-into .last .1 .1 .1 .0) (c .before .before .check .result) (c .before .refuses .result)
     (c .before .before .before .before .before .before .before .before .before .before .before .read-into .ensures) (c .before .before .check .ensures) (c .before .refuses .ensures) (c .if1 .taken)
 
 conclude-requires : tie.Need-conclude-requires
 conclude-requires c κs =
     let s = stateOf (c .before .before .before .before .before .before .before .before .before .before .before .before .before .before .before .before .before .before .before .args .words .now) (c .before .before .before .before .before .before .before .before .before .before .before .before .before .before .before .before .before .before .before .args .counts .now) (c .before .before .before .before .before .before .before .before .before .before .before .before .before .before .before .before .before .before .before .args .learned .now) (c .before .before .before .before .before .before .before .before .before .before .before .before .before .before .before .before .before .before .before .args .count .now) in
     let sized : Sized (s .entries) = record { counts-length = search needs; words-length = search needs } in
-    passes (c .before .before .before .before .before .before .before .before .before .before .before .before .before .before .before .before .before .before .before .args .r) s sized (c .before .before .before .before .before .before .before .before .before .before .before .before .before .before .before .before .before .before .before .args .line .now) (c .before .before .before .before .before .before .before .before .before .before .before .before .before .before .before .before .read-into .result) (c .before .before .before .before .before .before .before .before .before .before .before .before .before .before .before .before .read-into .last .1 .1 .0) (c .before .before .before .before .before .before .before .check .result) (c .before .before .before .before .before .before .refuses .result)
+    passes (c .before .before .before .before .before .before .before .before .before .before .before .before .before .before .before .before .before .before .before .args .r) s sized (c .before .before .before .before .before .before .before .before .before .before .before .before .before .before .before .before .before .before .before .args .line .now) (c .before .before .before .before .before .before .before .before .before .before .before .before .before .before .before .before .read-into .result) (c .before .before .before .before .before .before .before .before .before .before .before .before .before .before .before .before .read-into .last .1 .1 .1 .0) (c .before .before .before .before .before .before .before .check .result) (c .before .before .before .before .before .before .refuses .result)
     (c .before .before .before .before .before .before .before .before .before .before .before .before .before .before .before .before .read-into .ensures) (c .before .before .before .before .before .before .before .check .ensures) (c .before .before .before .before .before .before .refuses .ensures) (c .before .before .before .before .before .if1 .left)
 
 returns-2 : tie.Need-returns-2
 returns-2 c =
     let s = stateOf (c .before .before .before .before .before .before .before .before .before .before .before .before .before .before .before .before .before .before .before .before .args .words .now) (c .before .before .before .before .before .before .before .before .before .before .before .before .before .before .before .before .before .before .before .before .args .counts .now) (c .before .before .before .before .before .before .before .before .before .before .before .before .before .before .before .before .before .before .before .before .args .learned .now) (c .before .before .before .before .before .before .before .before .before .before .before .before .before .before .before .before .before .before .before .before .args .count .now) in
     let sized : Sized (s .entries) = record { counts-length = search needs; words-length = search needs } in
-    c .conclude .ensures ∙ steps-concluded (c .before .before .before .before .before .before .before .before .before .before .before .before .before .before .before .before .before .before .before .before .args .r) s sized (c .before .before .before .before .before .before .before .before .before .before .before .before .before .before .before .before .before .before .before .before .args .line .now) (c .before .before .before .before .before .before .before .before .before .before .before .before .before .before .before .before .before .read-into .result) (c .before .before .before .before .before .before .before .before .before .before .before .before .before .before .before .before .before .read-into .last .1 .1 .0) (c .before .before .before .before .before .before .before .before .check .result) (c .before .before .before .before .before .before .before .refuses .result)
+    c .conclude .ensures ∙ steps-concluded (c .before .before .before .before .before .before .before .before .before .before .before .before .before .before .before .before .before .before .before .before .args .r) s sized (c .before .before .before .before .before .before .before .before .before .before .before .before .before .before .before .before .before .before .before .before .args .line .now) (c .before .before .before .before .before .before .before .before .before .before .before .before .before .before .before .before .before .read-into .result) (c .before .before .before .before .before .before .before .before .before .before .before .before .before .before .before .before .before .read-into .last .1 .1 .1 .0) (c .before .before .before .before .before .before .before .before .check .result) (c .before .before .before .before .before .before .before .refuses .result)
     (c .before .before .before .before .before .before .before .before .before .before .before .before .before .before .before .before .before .read-into .ensures) (c .before .before .before .before .before .before .before .before .check .ensures) (c .before .before .before .before .before .before .before .refuses .ensures) (c .before .before .before .before .before .before .if1 .left)
 
 pub step-in-place-spec : {M : Type 1} → statement M

@@ -2,6 +2,7 @@
 -- the reading.
 -- Assumes nothing.
 use mathlib.Core.Path.{_∙_}
+use Rattle.words.specs.Sizes.{limit}
 use Rattle.frame.specs.BareLaws.{bare-reading}
 use Rattle.viewchange.specs.ViewChange.{taken}
 use Rattle.viewchange.specs.ViewChangeLaws.{bare-taken}
@@ -35,7 +36,7 @@ returns-2 : tie.Need-returns-2
 returns-2 c =
     let given = c .before .before .before .before .before .before .before .before .before .args in
     step-read (given .r) (given .own) (given .v) (given .line .now) (given .out .now) (c .before .before .before .before .before .before .config .result) (c .before .before .before .before .before .before .config .ensures) (c .before .before .before .before .before .if1 .left)
-    (read (c .before .before .before .before .read-bare .result)) (c .before .before .before .before .read-bare .ensures ∙ bare-reading (given .line .now) taken bare-taken) _ _ (c .before .before .respond .ensures)
+    (read (c .before .before .before .before .read-bare .result)) (c .before .before .before .before .read-bare .ensures ∙ bare-reading limit (given .line .now) taken bare-taken) _ _ (c .before .before .respond .ensures)
 
 pub step-spec : {M : Type 1} → statement M
 step-spec =

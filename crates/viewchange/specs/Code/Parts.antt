@@ -9,7 +9,7 @@ use Rattle.refusal.specs.declared.Refusal.the-variants.{Form}
 use Rattle.refusal.specs.Rules.{Rule, _gives_, judged}
 use Rattle.frame.specs.declared.Heading.{Heading}
 use Rattle.frame.specs.declared.Reading.{Reading}
-use Rattle.frame.specs.Layout.{capacity}
+use Rattle.frame.specs.Layout.{frameCapacity}
 use Rattle.frame.specs.Format.{readingWith}
 use Rattle.site.specs.declared.ViewRecord.{ViewRecord}
 use Rattle.site.specs.Reply.{Reply, refuse, buffer}
@@ -18,7 +18,7 @@ use Rattle.viewchange.specs.ViewChange.{kindOf, frameRules, accepted, ou
 
 -- what was read of a line by its heading: the kinds that are taken have no commands
 abbrev pub read : Heading → Reading
-read head = readingWith head (replicate capacity 0)
+read head = readingWith head (replicate frameCapacity 0)
 
 -- the checks after CONFIG, of what was read, and what it then gives
 abbrev pub readRules : Roster → ViewRecord → Reading → List Rule

@@ -49,7 +49,7 @@ same-length c = search needs
 returns-2 : tie.Need-returns-2
 returns-2 c =
     let given = c .before .before .before .before .before .before .before .before .before .before .before .before .before .before .before .before .before .before .before .before .before .before .before .before .args in
-    concludes (given .r) (given .own) (stateOf (given .marks) (given .pending .now) (given .count .now) (given .proven .now) (given .proven-counts .now) (given .held .now) (given .held-counts .now)) (given .out .now) (c .before .before .before .before .before .before .before .before .before .before .before .before .before .before .before .before .before .before .quorum .result) (c .before .before .before .before .before .before .before .before .before .before .before .before .before .before .before .before .before .reaches .result) (c .before .before .before .before .before .before .before .before .before .before .before .before .before .before .before .before .before .before .quorum .ensures) (c .before .before .before .before .before .before .before .before .before .before .before .before .before .before .before .before .before .reaches .ensures) (not-false _ (c .before .before .before .before .before .before .before .before .before .before .before .before .before .before .before .before .if1 .left)) (now (c .before .before .before .before .before .before .before .before .before .before .before .before .first .result)) (c .before .before .before .before .before .before .before .before .before .before .before .propose .result) (now (c .before .before .before .before .before .before .before .first2 .result)) _ _ (historyOf (c .shorten .last .1 .0) (c .shorten .last .0)) (c .before .before .before .before .before .before .before .before .before .before .before .before .first .ensures) (c .before .before .before .before .before .before .before .before .before .before .before .propose .ensures) (c .before .before .before .before .before .before .before .first2 .ensures) (c .before .before .before .before .before .send-p2a .ensures) (c .shorten .ensures)
+    concludes (given .r) (given .own) (stateOf (given .marks) (given .pending .now) (given .count .now) (given .proven .now) (given .proven-counts .now) (given .held .now) (given .held-counts .now)) (given .out .now) (c .before .before .before .before .before .before .before .before .before .before .before .before .before .before .before .before .before .before .quorum .result) (c .before .before .before .before .before .before .before .before .before .before .before .before .before .before .before .before .before .reaches .result) (c .before .before .before .before .before .before .before .before .before .before .before .before .before .before .before .before .before .before .quorum .ensures) (c .before .before .before .before .before .before .before .before .before .before .before .before .before .before .before .before .before .reaches .ensures) (not-false _ (c .before .before .before .before .before .before .before .before .before .before .before .before .before .before .before .before .if1 .left)) (now (c .before .before .before .before .before .before .before .before .before .before .before .before .first .result)) (c .before .before .before .before .before .before .before .before .before .before .before .propose .result) (now (c .before .before .before .before .before .before .before .first2 .result)) _ _ (historyOf (c .shorten .last .0) (c .shorten .last .1 .0)) (c .before .before .before .before .before .before .before .before .before .before .before .before .first .ensures) (c .before .before .before .before .before .before .before .before .before .before .before .propose .ensures) (c .before .before .before .before .before .before .before .first2 .ensures) (c .before .before .before .before .before .send-p2a .ensures) (c .shorten .ensures)
 
 pub conclude-spec : {M : Type 1} → statement M
 conclude-spec =
