@@ -5,17 +5,18 @@ use mathlib.Core.List.{List, [], _∷_, _++_, append-nil}
 use Prim.Native.Nat.{ℕ, suc, _+_, _-_, _≤_, _<_}
 use native.Mathlib.Omega.{arith}
 use native.Mathlib.Numerals.{add-one}
-use lib.ListN.{length, take, drop, getD, set, drop-of-length-le, length-take, length-set}
-use lib.Seq.{take-at, take-all, drop-cons, length-take-le, length-front, take-suc-set, append-snoc}
+use lib.ListN.{length, take, drop, getD, set, drop-of-length-le, length-take, length-append, length-set}
+use lib.Seq.{take-at, take-all, take-append-le, drop-cons, length-take-le, length-front, take-suc-set, append-snoc}
 use Rattle.history.specs.History.{canonical}
 use Rattle.history.specs.CanonicalLaws.{canonical-length}
-use Rattle.history.specs.Words.{limit, padded}
-use Rattle.history.specs.WordsLaws.{take-padded}
+use Rattle.history.specs.Words.{padded}
+use Rattle.history.specs.WordsLaws.{length-padded, take-padded}
 use Rattle.merge.specs.Merge.{appendedIn}
 use Rattle.merge.specs.Appending.{holds}
 use Rattle.merge.specs.AppendingLaws.{take-appended}
-use Rattle.proposal.specs.Proposal.{longer, longestTo, filled, filledTo, assembled, proposal, remaining, Begins}
-use Rattle.proposal.specs.ProposalLaws.{longest-suc, filled-short}
+use Rattle.proposal.specs.Proposal.{longer, longestTo, filled, filledTo, assembled, proposal, remaining}
+use Rattle.proposal.specs.Code.Work.{Begins}
+use Rattle.proposal.specs.ProposalLaws.{longest-suc, filled-short, filled-cut, filled-to-cut}
 
 -- ---- the longest
 
@@ -27,45 +28,77 @@ longest-next n f p =
 
 -- ---- gathering
 
-pub gather-start : (words : List ℕ) (n : ℕ) → length words ≡ limit → n ≤ limit → Begins words n (take n words)
-gather-start words n p q = record { length-is = p; count = sym (length-take-le n words (omega arith)); words-are = refl; short = q }
+pub gather-start : (words : List ℕ) (n : ℕ) → n ≤ length words → Begins (length words) words n (take n words)
+gather-start words n p = record { length-is = refl; count = sym (length-take-le n words p); words-are = refl; short = p }
 
 -- one list more is appended
-pub gather-more : {b g : List ℕ} {k : ℕ} → Begins b k g → (h : List ℕ) (n : ℕ) (w : List ℕ) → n ≡ length (appendedIn b k h)
-    → w ≡ appendedIn b k h ++ drop n b → length w ≡ length b → Begins w n (filled g h)
+pub gather-more : {room : ℕ} {b g : List ℕ} {k : ℕ} → Begins room b k g → (h : List ℕ) (n : ℕ) (w : List ℕ) → n ≡ length (appendedIn b k h)
+    → w ≡ appendedIn b k h ++ drop n b → length w ≡ length b → Begins room w n (filled room g h)
 unfolding filled
-gather-more {b} {g} {k} s h n w p q r =
+gather-more {room} {b} {g} {k} s h n w p q r =
     record {
       length-is = r ∙ s .length-is;
       count = p ∙ ap length whole;
       words-are = take-appended b k h n w p q ∙ whole;
-      short = rw (p ∙ ap length whole) (filled-short g h);
+      short = rw (p ∙ ap length whole) (filled-short room g h);
     }
   where
-    whole : appendedIn b k h ≡ filled g h
+    whole : appendedIn b k h ≡ filled room g h
     whole = rw (s .length-is, s .words-are)
 
--- the words hold the longest proven history g, then the held histories too, then what is pending
-pub assembled-all : (n : ℕ) (proven held : ℕ → List ℕ) (pending : List ℕ) (g : List ℕ) → g ≡ longestTo n proven → length (longestTo n proven) ≤ limit
-    → (a : List ℕ) → a ≡ padded limit g → {b : List ℕ} {k : ℕ} → Begins b k (filledTo n held (take (length g) a))
+-- ---- putting together
+
+-- the words a hold what there is room for of g, then the held histories too, then what is pending
+pub assembled-all : (room n : ℕ) (held : ℕ → List ℕ) (pending g front : List ℕ) → front ≡ take room g → (a : List ℕ) → a ≡ padded room front
+    → {b : List ℕ} {k : ℕ} → Begins (length a) b k (filledTo (length a) n held (take (length front) a))
     → (m : ℕ) (w : List ℕ) → m ≡ length (appendedIn b k pending) → w ≡ appendedIn b k pending ++ drop m b → length w ≡ length b
-    → Begins w m (assembled n proven held pending)
-unfolding assembled
-assembled-all n proven held pending g e short a f {b} {k} s m w p q r =
-    let base : take (length g) a ≡ longestTo n proven = rw f (take-padded limit g (rw e short)) ∙ e in
-    gather-more (subst (λ (x : List ℕ). Begins b k (filledTo n held x)) base s) pending m w p q r
+    → Begins room w m (filled room (filledTo room n held g) pending)
+assembled-all room n held pending g front e a f {b} {k} s m w p q r =
+    subst (Begins room w m) (ap (λ (l : List ℕ). filled room l pending) (filled-to-cut room n held g) ∙ filled-cut room (filledTo room n held g) pending)
+    (gather-more {room = room} start pending m w p q r)
+  where
+    size : length a ≡ room
+    size = rw f (length-padded room front)
+
+    base : take (length front) a ≡ take room g
+    base = rw f (take-padded room front (rw (e, length-take) (omega arith))) ∙ e
+
+    start : Begins room b k (filledTo room n held (take room g))
+    start = subst (λ (l : List ℕ). Begins room b k (filledTo room n held l)) base
+        (subst (λ (x : ℕ). Begins x b k (filledTo x n held (take (length front) a))) size s)
+
+-- ---- putting in order
 
 -- the first k of w are there after they were replaced by as many
 pub part-bound : (w o : List ℕ) (k : ℕ) → k ≤ length w → length o ≡ length (take k w) → k ≤ length (o ++ drop k w)
 part-bound w o k p e = rw (length-front w o k e) p
 
--- the part of the words that was put in order is the proposal
-pub order-gathered : (n : ℕ) (proven held : ℕ → List ℕ) (pending : List ℕ) {w : List ℕ} {k : ℕ} → Begins w k (assembled n proven held pending)
-    → (o : List ℕ) → o ≡ canonical (take k w) → take k (o ++ drop k w) ≡ proposal n proven held pending
-unfolding proposal
-order-gathered n proven held pending {w} {k} s o e =
-    let ordered : o ≡ canonical (assembled n proven held pending) = e ∙ ap canonical (s .words-are) in
-    take-at o (drop k w) k (ap length ordered ∙ canonical-length (assembled n proven held pending) ∙ sym (s .count)) ∙ ordered
+-- what the first words are, they are with more behind them
+pub begins-more : {room : ℕ} {w h : List ℕ} {k : ℕ} → Begins room w k h → (x : List ℕ) → Begins (length (w ++ x)) (w ++ x) k h
+begins-more {room} {w} {h} {k} s x =
+    record {
+      length-is = refl;
+      count = s .count;
+      words-are = take-append-le k w x (rw (s .length-is) (s .short)) ∙ s .words-are;
+      short = rw length-append (omega (arith, s .length-is, s .short));
+    }
+
+module _ (limit n : ℕ) (proven held : ℕ → List ℕ) (pending : List ℕ) where
+  -- what was put together after the longest proven history, in a part of as many words as the limit says
+  pub assembled-of : (g : List ℕ) → g ≡ longestTo n proven → {room : ℕ} {w : List ℕ} {k : ℕ}
+      → Begins room w k (filled room (filledTo room n held g) pending) → room ≡ limit → Begins limit w k (assembled limit n proven held pending)
+  unfolding assembled
+  assembled-of g e {room} {w} {k} s f =
+      subst (λ (l : List ℕ). Begins limit w k (filled limit (filledTo limit n held l) pending)) e
+      (subst (λ (x : ℕ). Begins x w k (filled x (filledTo x n held g) pending)) f s)
+
+  -- the part of the words that was put in order is the proposal
+  pub order-gathered : {room : ℕ} {w : List ℕ} {k : ℕ} → Begins room w k (assembled limit n proven held pending)
+      → (o : List ℕ) → o ≡ canonical (take k w) → take k (o ++ drop k w) ≡ proposal limit n proven held pending
+  unfolding proposal
+  order-gathered {room} {w} {k} s o e =
+      let ordered : o ≡ canonical (assembled limit n proven held pending) = e ∙ ap canonical (s .words-are) in
+      take-at o (drop k w) k (ap length ordered ∙ canonical-length (assembled limit n proven held pending) ∙ sym (s .count)) ∙ ordered
 
 -- ---- keeping
 

@@ -1,13 +1,11 @@
 -- The leader's proposal, made of the reports and of what is pending, as document 01, "Leader", words it.
-use mathlib.Core.Path.{_≡_}
 use mathlib.Core.Bool.{cond}
 use mathlib.Core.List.{List, [], _∷_}
-use Prim.Native.Nat.{ℕ, zero, suc, _≤_}
+use Prim.Native.Nat.{ℕ, zero, suc}
 use lib.Dec.{ltb}
 use lib.ListN.{length, take}
 use Rattle.roster.specs.Mask.{bit}
 use Rattle.history.specs.History.{canonical}
-use Rattle.history.specs.Words.{limit}
 use Rattle.merge.specs.Merge.{appended}
 use Rattle.merge.specs.Appending.{holds}
 use Rattle.table.specs.Table.{row}
@@ -25,31 +23,24 @@ unfoldable pub longestTo : ℕ → (ℕ → List ℕ) → List ℕ
 longestTo zero f = []
 longestTo (suc n) f = longer (longestTo n f) (f n)
 
--- g with h appended, "skipping any proposer and serial present and stopping at 32"
-unfoldable pub filled : List ℕ → List ℕ → List ℕ
-filled g h = take limit (appended g h)
+-- g with h appended, "skipping any proposer and serial present and stopping at 32": at the limit
+unfoldable pub filled : ℕ → List ℕ → List ℕ → List ℕ
+filled limit g h = take limit (appended g h)
 
 -- "Then it appends the held histories by rising site": those that f gives of the sites below n
-unfoldable pub filledTo : ℕ → (ℕ → List ℕ) → List ℕ → List ℕ
-filledTo zero f g = g
-filledTo (suc n) f g = filled (filledTo n f g) (f n)
+unfoldable pub filledTo : ℕ → ℕ → (ℕ → List ℕ) → List ℕ → List ℕ
+filledTo limit zero f g = g
+filledTo limit (suc n) f g = filled limit (filledTo limit n f g) (f n)
 
 -- what the leader puts together of n sites' reports, proven and held, "then pending"
-unfoldable pub assembled : ℕ → (ℕ → List ℕ) → (ℕ → List ℕ) → List ℕ → List ℕ
-assembled n proven held pending = filled (filledTo n held (longestTo n proven)) pending
+unfoldable pub assembled : ℕ → ℕ → (ℕ → List ℕ) → (ℕ → List ℕ) → List ℕ → List ℕ
+assembled limit n proven held pending = filled limit (filledTo limit n held (longestTo n proven)) pending
 
 -- the proposal: "the canonical result"
-unfoldable pub proposal : ℕ → (ℕ → List ℕ) → (ℕ → List ℕ) → List ℕ → List ℕ
-proposal n proven held pending = canonical (assembled n proven held pending)
+unfoldable pub proposal : ℕ → ℕ → (ℕ → List ℕ) → (ℕ → List ℕ) → List ℕ → List ℕ
+proposal limit n proven held pending = canonical (assembled limit n proven held pending)
 
 -- "Pending keeps what the result doesn't hold": the commands of `pending`, in their order, that h does not hold
 unfoldable pub remaining : List ℕ → List ℕ → List ℕ
 remaining [] h = []
 remaining (c ∷ pending) h = cond (holds h c) (remaining pending h) (c ∷ remaining pending h)
-
--- the first n words are these commands, at most 32 of them
-pub record Begins (words : List ℕ) (n : ℕ) (h : List ℕ) : Type 0 where
-  pub length-is : length words ≡ limit
-  pub count : n ≡ length h
-  pub words-are : take n words ≡ h
-  pub short : n ≤ limit

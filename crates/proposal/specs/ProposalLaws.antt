@@ -1,4 +1,4 @@
--- Laws of the proposal: which history is the longest, that the proposal is a valid history that extends it, and what stays pending.
+-- Laws of the proposal, over the limit: which history is the longest, that the proposal is a valid history that extends it, and what stays pending.
 use mathlib.Core.Path.{_≡_, refl, sym, ap, _∙_, subst}
 use mathlib.Core.Logic.{⊎-elim}
 use mathlib.Core.Bool.{Bool, true, false, not, cond, _&&_, _||_}
@@ -8,7 +8,7 @@ use native.Mathlib.Omega.{arith}
 use borrow.Author.Tests.{lt-ltb, le-ltb, eqb-true}
 use lib.Dec.{eqb}
 use lib.ListN.{length, take, drop, length-take, take-append-drop}
-use lib.Seq.{take-take}
+use lib.Seq.{take-all, take-take, length-take-le}
 use Rattle.basics.specs.Bools.{and-left, and-right, or-left, or-right}
 use Rattle.roster.specs.Mask.{bit}
 use Rattle.roster.specs.SitesLaws.{last-or-below, lt-or-le}
@@ -19,7 +19,7 @@ use Rattle.history.specs.ExtensionLaws.{extends-refl, extends-trans, extends-al
 use Rattle.history.specs.CanonicalLaws.{canonical-equivalent, canonical-length, canonical-is-canonical}
 use Rattle.history.specs.OrderLaws.{repeated-along, all-valid-along}
 use Rattle.history.specs.ValidLaws.{valid-nil, valid-parts, parts-valid}
-use Rattle.history.specs.Words.{limit}
+use Rattle.history.specs.Words.{capacity}
 use Rattle.history.specs.FitLaws.{EachFits, none as no-word, more as one-more, each-take, each-along}
 use Rattle.merge.specs.Merge.{appended}
 use Rattle.merge.specs.MergeLaws.{appended-all-valid, appended-distinct}
@@ -50,9 +50,9 @@ module _ (words counts : List ℕ) (reported i : ℕ) where
       go true e = subst P (sym (report-marked e)) one
       go false e = subst P (sym (report-unmarked e)) none
 
-  -- a report has at most 32 commands
-  pub report-short : length (report words counts reported i) ≤ limit
-  report-short = report-keeps (λ h. length h ≤ limit) (omega arith) (length-row words counts i)
+  -- a report has at most as many commands as a row has room for
+  pub report-short : length (report words counts reported i) ≤ capacity
+  report-short = report-keeps (λ h. length h ≤ capacity) (omega arith) (length-row words counts i)
 
 -- ---- the longest
 
@@ -120,50 +120,74 @@ longest-keeps P none n f each = go (longest-is n f .from)
     go (nowhere e) = subst P (sym e) none
     go (site i p e q) = subst P (sym e) (each i p)
 
--- the longest of reports has at most 32 commands
-pub longest-short : (n : ℕ) (words counts : List ℕ) (reported : ℕ) → length (longestTo n (report words counts reported)) ≤ limit
+-- the longest of reports has at most as many commands as a row has room for
+pub longest-short : (n : ℕ) (words counts : List ℕ) (reported : ℕ) → length (longestTo n (report words counts reported)) ≤ capacity
 longest-short n words counts reported =
-    longest-keeps (λ h. length h ≤ limit) (omega arith) n (report words counts reported) (λ i p. report-short words counts reported i)
+    longest-keeps (λ h. length h ≤ capacity) (omega arith) n (report words counts reported) (λ i p. report-short words counts reported i)
 
--- ---- appending up to 32 commands
+-- ---- appending up to the limit
 
--- it has at most 32 commands then
-pub filled-short : (g h : List ℕ) → length (filled g h) ≤ limit
-unfolding filled
-filled-short g h = rw length-take (omega arith)
+module _ (limit : ℕ) where
+  -- it has at most so many commands then
+  pub filled-short : (g h : List ℕ) → length (filled limit g h) ≤ limit
+  unfolding filled
+  filled-short g h = rw length-take (omega arith)
 
--- appending to at most 32 commands only appends
-pub filled-extends : (g h : List ℕ) → length g ≤ limit → Extends (filled g h) g
-unfolding filled
-filled-extends g h p =
-    let front : take (length g) (filled g h) ≡ g = take-take (length g) limit (appended g h) p ∙ appended-front g h in
-    record {
-      x = drop (length g) (filled g h);
-      equivalent = equivalent-refl (ap (λ (l : List ℕ). l ++ drop (length g) (filled g h)) (sym front) ∙ take-append-drop (length g) (filled g h));
-    }
+  -- appending to at most so many commands only appends
+  pub filled-extends : (g h : List ℕ) → length g ≤ limit → Extends (filled limit g h) g
+  unfolding filled
+  filled-extends g h p =
+      let front : take (length g) (filled limit g h) ≡ g = take-take (length g) limit (appended g h) p ∙ appended-front g h in
+      record {
+        x = drop (length g) (filled limit g h);
+        equivalent = equivalent-refl (ap (λ (l : List ℕ). l ++ drop (length g) (filled limit g h)) (sym front) ∙ take-append-drop (length g) (filled limit g h));
+      }
 
--- no site's appended
-pub filled-to-zero : (f : ℕ → List ℕ) (g : List ℕ) → filledTo 0 f g ≡ g
-unfolding filledTo
-filled-to-zero f g = refl
+  -- what g has past the limit doesn't count
+  pub filled-cut : (g h : List ℕ) → filled limit (take limit g) h ≡ filled limit g h
+  unfolding filled
+  filled-cut g h = ⊎-elim over within (lt-or-le limit (length g))
+    where
+      within : length g ≤ limit → take limit (appended (take limit g) h) ≡ take limit (appended g h)
+      within p = rw (take-all limit g p)
 
--- one site's more
-pub filled-to-suc : (n : ℕ) (f : ℕ → List ℕ) (g : List ℕ) → filledTo (suc n) f g ≡ filled (filledTo n f g) (f n)
-unfolding filledTo
-filled-to-suc n f g = refl
+      over : limit < length g → take limit (appended (take limit g) h) ≡ take limit (appended g h)
+      over p =
+          let size : length (take limit g) ≡ limit = length-take-le limit g (omega arith) in
+          ap (λ (n : ℕ). take n (appended (take limit g) h)) (sym size) ∙ appended-front (take limit g) h
+          ∙ ap (take limit) (sym (appended-front g h))
+          ∙ take-take limit (length g) (appended g h) (omega arith)
 
--- with all of them appended it has at most 32 commands if it had
-pub filled-to-short : (n : ℕ) (f : ℕ → List ℕ) (g : List ℕ) → length g ≤ limit → length (filledTo n f g) ≤ limit
-unfolding filledTo
-filled-to-short zero f g p = p
-filled-to-short (suc n) f g p = filled-short (filledTo n f g) (f n)
+  -- no site's appended
+  pub filled-to-zero : (f : ℕ → List ℕ) (g : List ℕ) → filledTo limit 0 f g ≡ g
+  unfolding filledTo
+  filled-to-zero f g = refl
 
--- and extends what it was
-filled-to-extends : (n : ℕ) (f : ℕ → List ℕ) (g : List ℕ) → length g ≤ limit → Extends (filledTo n f g) g
-unfolding filledTo
-filled-to-extends zero f g p = extends-refl g
-filled-to-extends (suc n) f g p =
-    extends-trans (filled-extends (filledTo n f g) (f n) (filled-to-short n f g p)) (filled-to-extends n f g p)
+  -- one site's more
+  pub filled-to-suc : (n : ℕ) (f : ℕ → List ℕ) (g : List ℕ) → filledTo limit (suc n) f g ≡ filled limit (filledTo limit n f g) (f n)
+  unfolding filledTo
+  filled-to-suc n f g = refl
+
+  -- with all of them appended it has at most so many commands if it had
+  pub filled-to-short : (n : ℕ) (f : ℕ → List ℕ) (g : List ℕ) → length g ≤ limit → length (filledTo limit n f g) ≤ limit
+  unfolding filledTo
+  filled-to-short zero f g p = p
+  filled-to-short (suc n) f g p = filled-short (filledTo limit n f g) (f n)
+
+  -- and extends what it was
+  filled-to-extends : (n : ℕ) (f : ℕ → List ℕ) (g : List ℕ) → length g ≤ limit → Extends (filledTo limit n f g) g
+  unfolding filledTo
+  filled-to-extends zero f g p = extends-refl g
+  filled-to-extends (suc n) f g p =
+      extends-trans (filled-extends (filledTo limit n f g) (f n) (filled-to-short n f g p)) (filled-to-extends n f g p)
+
+  -- what g has past the limit stands past the limit then, or not at all
+  pub filled-to-cut : (n : ℕ) (f : ℕ → List ℕ) (g : List ℕ) → filledTo limit n f (take limit g) ≡ take limit (filledTo limit n f g)
+  unfolding filledTo
+  filled-to-cut zero f g = refl
+  filled-to-cut (suc n) f g =
+      ap (λ (l : List ℕ). filled limit l (f n)) (filled-to-cut n f g) ∙ filled-cut (filledTo limit n f g) (f n)
+      ∙ sym (take-all limit (filled limit (filledTo limit n f g) (f n)) (filled-short (filledTo limit n f g) (f n)))
 
 -- ---- the proposal
 
@@ -173,12 +197,12 @@ pub record Closed (P Q : List ℕ → Type 0) : Type 0 where
   pub appending : {g h : List ℕ} → P g → Q h → P (appended g h)
   pub reordering : {g h : List ℕ} → Equivalent g h → P g → P h
 
-module _ {P Q : List ℕ → Type 0} (k : Closed P Q) where
-  filled-keeps : {g h : List ℕ} → P g → Q h → P (filled g h)
+module _ {P Q : List ℕ → Type 0} (k : Closed P Q) (limit : ℕ) where
+  filled-keeps : {g h : List ℕ} → P g → Q h → P (filled limit g h)
   unfolding filled
   filled-keeps p q = k .cut limit (k .appending p q)
 
-  filled-to-keeps : (n : ℕ) (f : ℕ → List ℕ) (g : List ℕ) → P g → ((i : ℕ) → i < n → Q (f i)) → P (filledTo n f g)
+  filled-to-keeps : (n : ℕ) (f : ℕ → List ℕ) (g : List ℕ) → P g → ((i : ℕ) → i < n → Q (f i)) → P (filledTo limit n f g)
   unfolding filledTo
   filled-to-keeps zero f g p each = p
   filled-to-keeps (suc n) f g p each =
@@ -186,32 +210,32 @@ module _ {P Q : List ℕ → Type 0} (k : Closed P Q) where
 
   -- such a P of the longest proven history is one of the proposal, if the held histories and what is pending have Q
   pub proposal-keeps : (n : ℕ) (proven held : ℕ → List ℕ) (pending : List ℕ) → P (longestTo n proven) → ((i : ℕ) → i < n → Q (held i)) → Q pending
-      → P (proposal n proven held pending)
+      → P (proposal limit n proven held pending)
   unfolding proposal assembled
   proposal-keeps n proven held pending p each q =
-      k .reordering (equivalent-sym (canonical-equivalent (assembled n proven held pending)))
+      k .reordering (equivalent-sym (canonical-equivalent (assembled limit n proven held pending)))
       (filled-keeps (filled-to-keeps n held (longestTo n proven) p each) q)
 
-module _ (n : ℕ) (proven held : ℕ → List ℕ) (pending : List ℕ) where
-  -- the proposal extends the longest proven history
-  pub proposal-extends : length (longestTo n proven) ≤ limit → Extends (proposal n proven held pending) (longestTo n proven)
+module _ (limit n : ℕ) (proven held : ℕ → List ℕ) (pending : List ℕ) where
+  -- the proposal extends the longest proven history, if that is within the limit
+  pub proposal-extends : length (longestTo n proven) ≤ limit → Extends (proposal limit n proven held pending) (longestTo n proven)
   unfolding proposal assembled
   proposal-extends p =
-      extends-along (equivalent-sym (canonical-equivalent (assembled n proven held pending)))
+      extends-along (equivalent-sym (canonical-equivalent (assembled limit n proven held pending)))
       (extends-trans
-      (filled-extends (filledTo n held (longestTo n proven)) pending (filled-to-short n held (longestTo n proven) p))
-      (filled-to-extends n held (longestTo n proven) p))
+      (filled-extends limit (filledTo limit n held (longestTo n proven)) pending (filled-to-short limit n held (longestTo n proven) p))
+      (filled-to-extends limit n held (longestTo n proven) p))
 
   -- it is canonical
-  pub proposal-canonical : isCanonical (proposal n proven held pending) ≡ true
+  pub proposal-canonical : isCanonical (proposal limit n proven held pending) ≡ true
   unfolding proposal
-  proposal-canonical = canonical-is-canonical (assembled n proven held pending)
+  proposal-canonical = canonical-is-canonical (assembled limit n proven held pending)
 
-  -- it has at most 32 commands
-  pub proposal-short : length (proposal n proven held pending) ≤ limit
+  -- it is within the limit
+  pub proposal-short : length (proposal limit n proven held pending) ≤ limit
   unfolding proposal assembled
   proposal-short =
-      rw (canonical-length (assembled n proven held pending)) (filled-short (filledTo n held (longestTo n proven)) pending)
+      rw (canonical-length (assembled limit n proven held pending)) (filled-short limit (filledTo limit n held (longestTo n proven)) pending)
 
 -- ---- cutting off brings in nothing
 
@@ -253,28 +277,28 @@ all-valid-kept =
       reordering = λ e a. sym (all-valid-along e) ∙ a;
     }
 
-module _ (n : ℕ) (proven held : ℕ → List ℕ) (pending : List ℕ) where
+module _ (limit n : ℕ) (proven held : ℕ → List ℕ) (pending : List ℕ) where
   -- no proposer and serial stands in it twice if none does in the longest proven history
-  pub proposal-distinct : repeated (longestTo n proven) ≡ false → repeated (proposal n proven held pending) ≡ false
-  proposal-distinct u = proposal-keeps distinct-kept n proven held pending u (λ i p. tt) tt
+  pub proposal-distinct : repeated (longestTo n proven) ≡ false → repeated (proposal limit n proven held pending) ≡ false
+  proposal-distinct u = proposal-keeps distinct-kept limit n proven held pending u (λ i p. tt) tt
 
   -- its commands are valid if all those are of which it is made
   pub proposal-all-valid : ((i : ℕ) → i < n → allValid (proven i) ≡ true) → ((i : ℕ) → i < n → allValid (held i) ≡ true) → allValid pending ≡ true
-      → allValid (proposal n proven held pending) ≡ true
+      → allValid (proposal limit n proven held pending) ≡ true
   proposal-all-valid gs hs w =
       let none : allValid [] ≡ true = valid-parts [] valid-nil .commands in
-      proposal-keeps all-valid-kept n proven held pending (longest-keeps (λ h. allValid h ≡ true) none n proven gs) hs w
+      proposal-keeps all-valid-kept limit n proven held pending (longest-keeps (λ h. allValid h ≡ true) none n proven gs) hs w
 
   -- it is a valid history if the proven ones are and the other commands are valid
   pub proposal-valid : ((i : ℕ) → i < n → validHistory (proven i) ≡ true) → ((i : ℕ) → i < n → allValid (held i) ≡ true) → allValid pending ≡ true
-      → validHistory (proposal n proven held pending) ≡ true
+      → validHistory (proposal limit n proven held pending) ≡ true
   proposal-valid gs hs w =
       let none : repeated [] ≡ false = valid-parts [] valid-nil .distinct in
       parts-valid
       (record {
         commands = proposal-all-valid (λ i p. valid-parts (proven i) (gs i p) .commands) hs w;
         distinct = proposal-distinct (longest-keeps (λ h. repeated h ≡ false) none n proven (λ i p. valid-parts (proven i) (gs i p) .distinct));
-        in-order = proposal-canonical n proven held pending;
+        in-order = proposal-canonical limit n proven held pending;
       })
 
 -- ---- the words of the proposal
@@ -284,9 +308,9 @@ each-kept : Closed EachFits EachFits
 each-kept = record { cut = λ n w. each-take n w; appending = λ v w. each-appended v w; reordering = λ e w. each-along e w }
 
 -- the words of the proposal fit if all those do of which it is made
-pub proposal-fits : (n : ℕ) (proven held : ℕ → List ℕ) (pending : List ℕ) → ((i : ℕ) → i < n → EachFits (proven i))
-    → ((i : ℕ) → i < n → EachFits (held i)) → EachFits pending → EachFits (proposal n proven held pending)
-proposal-fits n proven held pending gs hs w = proposal-keeps each-kept n proven held pending (longest-keeps EachFits no-word n proven gs) hs w
+pub proposal-fits : (limit n : ℕ) (proven held : ℕ → List ℕ) (pending : List ℕ) → ((i : ℕ) → i < n → EachFits (proven i))
+    → ((i : ℕ) → i < n → EachFits (held i)) → EachFits pending → EachFits (proposal limit n proven held pending)
+proposal-fits limit n proven held pending gs hs w = proposal-keeps each-kept limit n proven held pending (longest-keeps EachFits no-word n proven gs) hs w
 
 -- ---- what stays pending
 

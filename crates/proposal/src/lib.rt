@@ -1,10 +1,21 @@
 // The leader's proposal: the longest of the proven histories that were reported, and after it the held ones and what is pending.
 ghost use mathlib.Core.Path.{_≡_};
-ghost use Prim.Native.Nat.{_≤_};
+ghost use Prim.Native.Nat.{min, _≤_};
 ghost use lib.ListN.{length, take};
-ghost use Rattle.history.specs.Words.{stored};
+ghost use Rattle.history.specs.Words.{capacity, stored};
 ghost use Rattle.proposal.specs.Proposal as spec;
+ghost use Rattle.proposal.specs.Code.Work.{Begins};
 use history::History;
+
+// How many words the array of a history has: `words::CAPACITY`.
+const CAPACITY: usize = 32;
+
+// The smaller of two numbers.
+fn smaller(a: usize, b: usize) -> usize
+    ensures { λ r. ⌜ r ≡ min a b ⌝ }
+{
+    if a < b { a } else { b }
+}
 
 // The history of a site's report, as the part of the words that it is; an empty part where the site has not reported.
 fn report<'a>(words: &'a [u64], counts: &'a [u8], reported: u16, site: u8) -> &'a [u64]
@@ -36,7 +47,8 @@ fn longest<'a>(words: &'a [u64], counts: &'a [u8], reported: u16, n: u8) -> &'a 
     longer(best, report(words, counts, reported, last))
 }
 
-// Appends to the first `count` words of work the histories that the sites below n reported, by rising site. Answers how many words there are then.
+// Appends to the first `count` words of work the histories that the sites below n reported, by rising site, up to the end of work. Answers how
+// many words there are then.
 fn gather<'a>(
     work: &mut [u64],
     count: usize,
@@ -45,8 +57,8 @@ fn gather<'a>(
     reported: u16,
     n: u8,
 ) -> usize
-    requires { ⌜ (length (now work) ≡ 32) × (count ≤ 32) ⌝ }
-    ensures { λ r. ⌜ spec.Begins (now (work .exit)) r (spec.filledTo n (spec.report (now (words .entry)) (now (counts .entry)) reported) (take count (now (work .entry)))) ⌝ }
+    requires { ⌜ count ≤ length (now work) ⌝ }
+    ensures { λ r. ⌜ Begins (length (now (work .entry))) (now (work .exit)) r (spec.filledTo (length (now (work .entry))) n (spec.report (now (words .entry)) (now (counts .entry)) reported) (take count (now (work .entry)))) ⌝ }
 {
     let mut len = count;
     let mut next: u8 = 0;
@@ -58,24 +70,50 @@ fn gather<'a>(
     len
 }
 
-// The proposal of n sites' reports, of which these have come, and of what is pending.
-pub fn propose<'a>(
-    proven: &'a [u64],
-    pcounts: &'a [u8],
+// Puts into work, up to its end, g, then the histories that the sites below n hold, by rising site, then what is pending. Answers how many words
+// there are then.
+fn assemble<'a>(
+    work: &mut [u64],
+    g: &[u64],
     held: &'a [u64],
-    hcounts: &'a [u8],
+    held_counts: &'a [u8],
+    reported: u16,
+    n: u8,
+    pending: &[u64],
+) -> usize
+    ensures { λ r. ⌜ Begins (length (now (work .entry))) (now (work .exit)) r (spec.filled (length (now (work .entry))) (spec.filledTo (length (now (work .entry))) n (spec.report (now (held .entry)) (now («held_counts» .entry)) reported) (now (g .entry))) (now (pending .entry))) ⌝ }
+{
+    let front = history::first(g, work.len());
+    history::fill(work, front);
+    let some = gather(work, front.len(), held, held_counts, reported, n);
+    merge::append(work, some, pending)
+}
+
+// The proposal of n sites' reports, of which these have come, and of what is pending, under a limit; one over 32 counts as 32.
+pub fn propose<'a>(
+    limit: u8,
+    proven: &'a [u64],
+    proven_counts: &'a [u8],
+    held: &'a [u64],
+    held_counts: &'a [u8],
     reported: u16,
     n: u8,
     pending: &'a [u64],
 ) -> History
-    ensures { λ h. ⌜ h ≡ stored (spec.proposal n (spec.report (now (proven .entry)) (now (pcounts .entry)) reported) (spec.report (now (held .entry)) (now (hcounts .entry)) reported) (now (pending .entry))) ⌝ }
+    ensures { λ h. ⌜ h ≡ stored (spec.proposal (min limit capacity) n (spec.report (now (proven .entry)) (now («proven_counts» .entry)) reported) (spec.report (now (held .entry)) (now («held_counts» .entry)) reported) (now (pending .entry))) ⌝ }
 {
-    let best = longest(proven, pcounts, reported, n);
-    let len = best.len();
-    let mut work = [0u64; 32];
-    history::fill(&mut work, best);
-    let some = gather(&mut work, len, held, hcounts, reported, n);
-    let all = merge::append(&mut work, some, pending);
+    let most = smaller(limit as usize, CAPACITY);
+    let best = longest(proven, proven_counts, reported, n);
+    let mut work = [0u64; CAPACITY];
+    let all = assemble(
+        &mut work[..most],
+        best,
+        held,
+        held_counts,
+        reported,
+        n,
+        pending,
+    );
     history::put_in_order(&mut work[..all]);
     History::of(&work[..all])
 }
@@ -101,11 +139,11 @@ fn keep(dst: &mut [u64], pending: &[u64], h: &[u64]) -> usize
     n
 }
 
-// The commands of `pending`, in their order, that h does not hold; the first 32 of them.
+// The commands of `pending`, in their order, that h does not hold; as many as there is room for.
 pub fn remaining(pending: &[u64], h: &[u64]) -> History
     ensures { λ k. ⌜ k ≡ stored (spec.remaining (now (pending .entry)) (now (h .entry))) ⌝ }
 {
-    let mut work = [0u64; 32];
+    let mut work = [0u64; CAPACITY];
     let n = keep(&mut work, pending, h);
     History::of(&work[..n])
 }

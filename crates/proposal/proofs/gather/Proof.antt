@@ -5,26 +5,26 @@ use native.Mathlib.Omega.{arith}
 use native.Mathlib.Numerals.{add-one}
 use mathlib.Core.Path.{_≡_, subst}
 use borrow.Author.Needs.{needs}
-use lib.ListN.{take}
-use Rattle.proposal.specs.Proposal.{report, filledTo, Begins}
+use lib.ListN.{length, take}
+use Rattle.proposal.specs.Proposal.{report, filledTo}
+use Rattle.proposal.specs.Code.Work.{Begins}
 use Rattle.proposal.specs.ProposalLaws.{filled-to-zero, filled-to-suc}
 use Rattle.proposal.proofs.Turns.{gather-start, gather-more}
 use Rattle.proposal.proofs.gather.Statement.{statement}
 use Rattle.proposal.proofs.gather.Tie as tie
 
 abbrev Inv-loop : tie.InvT-loop
-Inv-loop work₀ count words counts reported n len₀ next₀ work len next = (next ≤ n) × Begins work len (filledTo next (report words counts reported) (take count work₀))
+Inv-loop work₀ count words counts reported n len₀ next₀ work len next = (next ≤ n) × Begins (length work₀) work len (filledTo (length work₀) next (report words counts reported) (take count work₀))
 
 abbrev μ-loop : tie.MeasureT-loop
 μ-loop work₀ count words counts reported n len₀ next₀ work len next = n - next
 
 loop-holds : tie.Need-loop-holds Inv-loop μ-loop
 loop-holds c =
-    let given = c .before .before .before .args in
-    let sizes = c .before .before .before .pre in (
+    let given = c .before .before .before .args in (
       search needs,
-      rw (filled-to-zero (report (given .words .now) (given .counts .now) (given .reported)) (take (given .count) (given .work .now)))
-          (gather-start (given .work .now) (given .count) (sizes .0) (sizes .1)),
+      rw (filled-to-zero (length (given .work .now)) (report (given .words .now) (given .counts .now) (given .reported)) (take (given .count) (given .work .now)))
+          (gather-start (given .work .now) (given .count) (c .before .before .before .pre)),
     )
 
 add-next : tie.Need-add-next Inv-loop μ-loop
@@ -47,7 +47,7 @@ loop-again c =
     let append-call = c .before .before .append in
     let reports = report (given .words .now) (given .counts .now) (given .reported) in (
       search needs,
-      rw (add-one, filled-to-suc (turn .next) reports (take (given .count) (given .work .now)), ← report-call .ensures)
+      rw (add-one, filled-to-suc (length (given .work .now)) (turn .next) reports (take (given .count) (given .work .now)), ← report-call .ensures)
           (gather-more (turn .inv .1) (report-call .result .now) (append-call .result) (append-call .last .0) (append-call .ensures .0) (append-call .ensures .1) (append-call .kept .0)),
     )
 
@@ -59,7 +59,7 @@ returns c =
     let given = c .before .before .before .before .before .args in
     let turn = c .before .loop in
     let end : turn .next ≡ given .n = omega arith in
-    subst (λ (k : ℕ). Begins (turn .work) (turn .len) (filledTo k (report (given .words .now) (given .counts .now) (given .reported)) (take (given .count) (given .work .now))))
+    subst (λ (k : ℕ). Begins (length (given .work .now)) (turn .work) (turn .len) (filledTo (length (given .work .now)) k (report (given .words .now) (given .counts .now) (given .reported)) (take (given .count) (given .work .now))))
     end (turn .inv .1)
 
 pub gather-spec : {M : Type 1} → statement M
