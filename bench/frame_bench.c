@@ -8,7 +8,7 @@
 struct flat {
     uint8_t found, kind, sender, n, m;
     uint16_t mask;
-    uint32_t view, ballot, proven;
+    uint32_t view, ballot, proven_ballot;
     uint64_t words[64];
 };
 
@@ -19,7 +19,7 @@ extern size_t frame_bench_write(struct flat frame, uint8_t *out, size_t room);
 /* plain C */
 enum { HEADER = 36, LONGEST = 1061 };
 
-/* which of sender, view, ballot, proven, mask, n, m a kind uses */
+/* which of sender, view, ballot, proven ballot, mask, n, m a kind uses */
 static const uint8_t uses[11][7] = {
     {0, 0, 0, 0, 0, 0, 0}, {1, 1, 1, 0, 0, 0, 0}, {1, 1, 1, 0, 0, 0, 0}, {1, 0, 1, 1, 1, 1, 1}, {1, 0, 1, 0, 0, 1, 0}, {1, 1, 1, 0, 0, 1, 0},
     {1, 1, 1, 0, 0, 1, 0}, {1, 0, 1, 0, 1, 1, 0}, {1, 1, 0, 0, 0, 0, 0}, {1, 1, 0, 0, 1, 0, 0}, {1, 1, 0, 0, 1, 0, 0},
@@ -45,7 +45,7 @@ static int proper(const struct flat *f)
     if (f->kind < 1 || f->kind > 10 || f->n > 32 || f->m > 32)
         return 0;
     const uint8_t *u = uses[f->kind];
-    return (u[1] || !f->view) && (u[2] || !f->ballot) && (u[3] || !f->proven) && (u[4] || !f->mask) && (u[5] || !f->n) && (u[6] || !f->m);
+    return (u[1] || !f->view) && (u[2] || !f->ballot) && (u[3] || !f->proven_ballot) && (u[4] || !f->mask) && (u[5] || !f->n) && (u[6] || !f->m);
 }
 
 __attribute__((noinline)) static int plain_read(const uint8_t *line, size_t length, uint16_t kinds, struct flat *f)
@@ -96,7 +96,7 @@ __attribute__((noinline)) static size_t plain_write(const struct flat *f, uint8_
     put(out + 2, 1, f->sender);
     put(out + 4, 4, f->view);
     put(out + 12, 4, f->ballot);
-    put(out + 20, 4, f->proven);
+    put(out + 20, 4, f->proven_ballot);
     put(out + 28, 2, f->mask);
     put(out + 32, 1, f->n);
     put(out + 34, 1, f->m);
@@ -109,7 +109,7 @@ __attribute__((noinline)) static size_t plain_write(const struct flat *f, uint8_
 static int same(const struct flat *f, const struct flat *g)
 {
     return f->found == g->found && f->kind == g->kind && f->sender == g->sender && f->n == g->n && f->m == g->m && f->mask == g->mask && f->view == g->view
-        && f->ballot == g->ballot && f->proven == g->proven && !memcmp(f->words, g->words, sizeof f->words);
+        && f->ballot == g->ballot && f->proven_ballot == g->proven_ballot && !memcmp(f->words, g->words, sizeof f->words);
 }
 
 static double now(void)

@@ -9,7 +9,7 @@ use Rattle.frame.specs.declared.Heading.{Heading}
 use Rattle.frame.specs.Hex.{allDigits, numbers}
 use Rattle.frame.specs.Layout.{frameCapacity}
 use Rattle.frame.specs.Format.{commands, nothing, readingOf, readingWith}
-use Rattle.frame.specs.Leaves.{NumbersIn, Found}
+use Rattle.frame.specs.Code.Leaves.{NumbersIn, Found}
 use Rattle.frame.proofs.Lines.{head-few, wrong-length, no-feed, body-in, found-counted, rest-bad, rest-good}
 
 module _ (l : List ℕ) (kinds : ℕ) (hd : Heading) (f : Found 0 l kinds hd) where

@@ -5,7 +5,7 @@ use mathlib.Core.Path.{_≡_, refl, ap, _∙_}
 use mathlib.Core.List.{List}
 use lib.ListN.{length, getD}
 use Rattle.frame.specs.Hex.{digit}
-use Rattle.frame.specs.Leaves.{digitIn, tabled, values, characters}
+use Rattle.frame.specs.Code.Leaves.{digitIn, tabled, values, characters}
 
 entry : (n : ℕ) (rule : ℕ → ℕ) (k : ℕ) → k < n → getD (tabled n rule) k 0 ≡ rule k
 entry zero rule k h = absurd (not-suc-le-zero h)

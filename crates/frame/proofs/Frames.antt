@@ -21,7 +21,7 @@ use Rattle.frame.specs.Kinds.{unusedZero}
 use Rattle.frame.specs.Format.{commands, lineOf, proper, allZero, fits, writable, hasRoom, writtenLength, written, headOf, frameFrom, listed, lengthFrom, writtenFrom}
 use Rattle.frame.specs.FormatLaws.{proper-count}
 use Rattle.frame.specs.FromLaws.{listed-first, listed-second, listed-count, from-writable, from-line, from-listed, lists-are, from-parts}
-use Rattle.frame.specs.Leaves.{properHeader}
+use Rattle.frame.specs.Code.Leaves.{properHeader}
 use Rattle.frame.proofs.Runs.{commands-length, commands-total}
 
 -- ---- each value of the type fits

@@ -20,7 +20,7 @@ use Rattle.frame.specs.Layout.{commandWidth, frameCapacity, widths, coun
 use Rattle.frame.specs.Kinds.{uses, isKind, zeroUnless, unusedZero}
 use Rattle.frame.specs.Format.{commands, lineFeed, proper, framed, frameOf, isLine, nothing, readingOf, readingWith}
 use Rattle.frame.specs.FormatLaws.{total-commands}
-use Rattle.frame.specs.Leaves.{NumbersIn, properHeader, Fitting, Headed, Counted, Found, HeadIn, headingOf, noHeading, bodyGood, bodyReading, BodyIn}
+use Rattle.frame.specs.Code.Leaves.{NumbersIn, properHeader, Fitting, Headed, Counted, Found, HeadIn, headingOf, noHeading, bodyGood, bodyReading, BodyIn}
 
 abbrev zeros : ℕ → List ℕ
 zeros n = replicate n 0

@@ -17,7 +17,7 @@ use Rattle.frame.specs.HexLaws.{all-append, length-digits}
 use Rattle.frame.specs.Layout.{widths, commandWidth}
 use Rattle.frame.specs.Format.{commands}
 use Rattle.frame.specs.FormatLaws.{total-commands}
-use Rattle.frame.specs.Leaves.{numberIn, NumbersIn}
+use Rattle.frame.specs.Code.Leaves.{numberIn, NumbersIn}
 
 -- each field has eight bytes at most
 width-test : ℕ → Bool

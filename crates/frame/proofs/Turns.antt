@@ -17,7 +17,7 @@ use Rattle.frame.specs.Hex.{digit, isDigit, valueOf, allDigits, byteOf, 
 use Rattle.frame.specs.HexLaws.{value-lt}
 use Rattle.frame.specs.Kinds.{uses, isKind, zeroUnless}
 use Rattle.frame.specs.Format.{allZero}
-use Rattle.frame.specs.Leaves.{fullStop, digitIn, numberIn, properHeader}
+use Rattle.frame.specs.Code.Leaves.{fullStop, digitIn, numberIn, properHeader}
 
 -- ---- words that are all 0
 

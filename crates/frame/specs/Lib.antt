@@ -3,7 +3,7 @@ pub mod Hex
 pub mod Layout
 pub mod Kinds
 pub mod Format
-pub mod Leaves
+pub mod Code
 pub mod HexLaws
 pub mod FormatLaws
 pub mod BareLaws

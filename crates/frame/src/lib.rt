@@ -8,7 +8,7 @@ ghost use Rattle.frame.specs.Hex as hex;
 ghost use Rattle.frame.specs.Layout as layout;
 ghost use Rattle.frame.specs.Kinds as kinds;
 ghost use Rattle.frame.specs.Format as format;
-ghost use Rattle.frame.specs.Leaves as leaves;
+ghost use Rattle.frame.specs.Code.Leaves as leaves;
 use roster::Ballot;
 use roster::View;
 

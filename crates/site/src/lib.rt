@@ -72,6 +72,8 @@ pub fn send<'a>(
     }
     let one = words::first(g, words::CAPACITY);
     let two = words::first(h, words::CAPACITY);
+    let n = one.len() as u8;
+    let m = two.len() as u8;
     let heading = Heading {
         found: true,
         kind,
@@ -80,8 +82,8 @@ pub fn send<'a>(
         ballot,
         proven_ballot,
         mask,
-        n: one.len() as u8,
-        m: two.len() as u8,
+        n,
+        m,
     };
     frame::write_from(heading, one, two, out)
 }

@@ -2,7 +2,7 @@
 -- Assumes nothing.
 use Rattle.frame.proofs.Bare.{bare-length, bare-feed, bare-found}
 use Rattle.frame.proofs.Lines.{none-read}
-use Rattle.frame.specs.Leaves.{values, digitIn}
+use Rattle.frame.specs.Code.Leaves.{values, digitIn}
 use Rattle.frame.specs.Hex.{isDigit, valueOf}
 use borrow.Author.Tests.{not-true, not-false}
 use mathlib.Core.Path.{refl}

@@ -1,7 +1,7 @@
 -- `frame::read_into` meets its contract: where the header or the rest is not good there is no frame and the words are 0; else both are what the line spells.
 -- Assumes nothing.
 use Rattle.frame.proofs.Lines.{head-few, found-counted, rest-bad, rest-good, none-read, same-limit}
-use Rattle.frame.specs.Leaves.{values, digitIn}
+use Rattle.frame.specs.Code.Leaves.{values, digitIn}
 use Rattle.frame.specs.Hex.{isDigit, valueOf}
 use borrow.Author.Tests.{not-true, not-false}
 use mathlib.Core.Path.{refl, sym, _∙_}

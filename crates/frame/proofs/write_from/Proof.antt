@@ -1,7 +1,7 @@
 -- `frame::write_from` meets its contract: its tests are those of the contract, and what it writes is the header, the two lists and the line feed.
 -- Assumes nothing.
 use Rattle.frame.proofs.Frames.{Sized, lists-short, not-listed, from-not-proper, too-small, header-kept, first-room, first-kept, second-room, both-kept, all-written}
-use Rattle.frame.specs.Leaves.{characters}
+use Rattle.frame.specs.Code.Leaves.{characters}
 use Rattle.frame.specs.Format.{listed}
 use Rattle.frame.specs.Hex.{total, digit}
 use lib.Seq.{length-take-le}

@@ -16,11 +16,11 @@ first-requires c κs = search needs
 first-requires-2 : tie.Need-first-requires-2
 first-requires-2 c κs = search needs
 
-cast-t16 : tie.Need-cast-t16
-cast-t16 c = record { fits = cut-fits (c .before .before .before .before .before .before .args .g .now) _ (c .before .first .ensures) }
+cast-n : tie.Need-cast-n
+cast-n c = record { fits = cut-fits (c .before .before .before .before .before .before .args .g .now) _ (c .before .first .ensures) }
 
-cast-t18 : tie.Need-cast-t18
-cast-t18 c = record { fits = cut-fits (c .before .before .before .before .before .before .args .h .now) _ (c .first2 .ensures) }
+cast-m : tie.Need-cast-m
+cast-m c = record { fits = cut-fits (c .before .before .before .before .before .before .args .h .now) _ (c .first2 .ensures) }
 
 write-from-requires : tie.Need-write-from-requires
 write-from-requires c κs = search needs
@@ -38,8 +38,8 @@ send-spec =
     returns
     first-requires
     first-requires-2
-    cast-t16
-    cast-t18
+    cast-n
+    cast-m
     write-from-requires
     same-length
     returns-2)
