@@ -76,7 +76,7 @@ sets r v site = reaches (suspected v site) (weakCertificate r) && zeroView (v .t
 
 -- FULL: "the view would pass 4,294,967,295"
 abbrev pub full : Roster → ViewRecord → ℕ → Bool
-full r v site = sets r v site && lastView (v .view)
+full r v site = lastView (v .view) && sets r v site
 
 -- SUSPICION of a view from a site. STALE: "SUSPICION needs the current view"
 abbrev pub suspicionRules : Roster → ViewRecord → ℕ → View → List Rule

@@ -1,7 +1,7 @@
 -- One step of view change: its outcome, the frames that it sends, and what the record keeps.
 use mathlib.Core.Path.{_≡_, refl, sym, ap, _∙_, subst}
 use mathlib.Core.Logic.{_⊎_, inl, inr, ⊎-elim}
-use mathlib.Core.Bool.{Bool, true, false, not, _&&_, _||_, Bool·beq}
+use mathlib.Core.Bool.{Bool, true, false, not, _&&_, _||_, Bool·beq, and-true}
 use mathlib.Core.List.{List, _∷_}
 use Prim.Native.Nat.{ℕ, _^_, _≤_, _<_, _+_}
 use native.Mathlib.Nat.{le-refl, le-of-lt}
@@ -17,7 +17,7 @@ use Rattle.roster.specs.declared.Roster.{Roster}
 use Rattle.roster.specs.declared.View.{View}
 use Rattle.roster.specs.Roster.{validRoster, quorum}
 use Rattle.roster.specs.RosterLaws.{valid-figures}
-use Rattle.roster.specs.Counts.{sameView, laterView}
+use Rattle.roster.specs.Counts.{sameView, laterView, lastView}
 use Rattle.roster.specs.Sites.{allTo}
 use Rattle.roster.specs.Mask.{bit, reaches, withSite}
 use Rattle.roster.specs.MaskLaws.{bit-out, with-past, with-old, with-ones, with-fits, with-inside}
@@ -54,6 +54,7 @@ use Rattle.viewchange.specs.ViewChange.{
   form,
   suspected,
   sets,
+  full,
   frameRules,
   rules,
   noted,
@@ -242,9 +243,12 @@ module _ (own : ℕ) (view : View) (a : own < 256) (b : view .0 < 2 ^ 32) where
       ∙ ap (λ (m : Frame). record { found = true; frame = m }) (frame-of-line own-frame own-writable)
 
 -- the next view fits where FULL lets pass
+pub not-last : (r : Roster) (v : ViewRecord) (site : ℕ) → full r v site ≡ false → sets r v site ≡ true → nextView v .0 < 2 ^ 32
+not-last r v site e f = omega (arith, leb-false 4294967295 (v .view .0) (sym (and-true (lastView (v .view))) ∙ (rw f at e)))
+
 next-fits : (r : Roster) (v : ViewRecord) (m : Frame) → NoneHolds (frameRules SUSPICION r v m) → sets r v (m .sender) ≡ true → nextView v .0 < 2 ^ 32
 unfolding testOf
-next-fits r v m n e = omega (arith, leb-false 4294967295 (v .view .0) (rw e at (no-test n Full)))
+next-fits r v m n e = not-last r v (m .sender) (no-test n Full) e
 
 module _ {own : ℕ} {v : ViewRecord} (f : Fits own v) where
   suspected-fits : (site : ℕ) → suspected v site < 2 ^ 16

@@ -57,6 +57,18 @@ fn sets(r: Roster, v: ViewRecord, site: u8) -> bool
     roster::reaches(suspicions, r.weak_certificate()) & target.is_zero()
 }
 
+// Whether a site's SUSPICION sets a target in the last view.
+fn full(r: Roster, v: ViewRecord, site: u8) -> bool
+    ensures { λ b. ⌜ b ≡ spec.full r v site ⌝ }
+{
+    let view = v.view;
+    let last = view.is_last();
+    if !last {
+        return false;
+    }
+    sets(r, v, site)
+}
+
 // The answer to a SUSPICION of a view from a site.
 fn on_suspicion(r: Roster, v: ViewRecord, site: u8, view: View) -> Answer
     ensures { λ a. ⌜ a ≡ answer (spec.suspicionRules r v site view) ⌝ }
@@ -64,14 +76,14 @@ fn on_suspicion(r: Roster, v: ViewRecord, site: u8, view: View) -> Answer
     let present = v.view;
     let nobody = unknown(r, site);
     let stale = !view.equals(present);
-    let full = sets(r, v, site) & present.is_last();
+    let last = full(r, v, site);
     given(
         nobody,
         Refusal::Sender,
         given(
             stale,
             Refusal::Stale,
-            given(full, Refusal::Full, Answer::Accepted),
+            given(last, Refusal::Full, Answer::Accepted),
         ),
     )
 }
@@ -261,18 +273,6 @@ fn refuse(v: ViewRecord, answer: Answer) -> Outcome
     }
 }
 
-// What a call gives after CONFIG: the answer to the heading that was read, and the effect if it is no refusal.
-fn respond(r: Roster, own: u8, v: ViewRecord, head: Heading, out: &mut [u8]) -> Outcome
-    ensures { λ o. ⌜ parts.Done (parts.replied r own v (parts.read head)) (now (out .entry)) o (now (out .exit)) ⌝ }
-{
-    let answer = check(r, v, head);
-    let refused = answer.refuses();
-    if refused {
-        return refuse(v, answer);
-    }
-    perform(r, own, v, head, out)
-}
-
 // One step: the answer to a line, how much of the buffer is to be sent, and the record after it. Any line is answered, in any state.
 pub fn step(r: Roster, own: u8, v: ViewRecord, line: &[u8], out: &mut [u8]) -> Outcome
     ensures { λ o. ⌜ (o ≡ spec.returned r own v (now (line .entry)) (now (out .entry))) × (now (out .exit) ≡ spec.output r own v (now (line .entry)) (now (out .entry))) ⌝ }
@@ -282,7 +282,12 @@ pub fn step(r: Roster, own: u8, v: ViewRecord, line: &[u8], out: &mut [u8]) -> O
         return refuse(v, Answer::Refused(Refusal::Config));
     }
     let head = frame::read_bare(line, TAKEN);
-    respond(r, own, v, head, out)
+    let answer = check(r, v, head);
+    let refused = answer.refuses();
+    if refused {
+        return refuse(v, answer);
+    }
+    perform(r, own, v, head, out)
 }
 
 // The host's own suspicion of a view: it enters as a SUSPICION from itself.
@@ -293,16 +298,10 @@ pub fn suspicion(r: Roster, own: u8, v: ViewRecord, view: View, out: &mut [u8]) 
     if barred {
         return refuse(v, Answer::Refused(Refusal::Config));
     }
-    let head = Heading {
-        found: true,
-        kind: SUSPICION,
-        sender: own,
-        view,
-        ballot: Ballot(0),
-        proven_ballot: Ballot(0),
-        mask: 0,
-        n: 0,
-        m: 0,
-    };
-    respond(r, own, v, head, out)
+    let reply = on_suspicion(r, v, own, view);
+    let stops = reply.refuses();
+    if stops {
+        return refuse(v, reply);
+    }
+    suspect(r, own, v, own, out)
 }

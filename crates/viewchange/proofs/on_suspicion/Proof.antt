@@ -11,11 +11,8 @@ unknown-requires c κs = search needs
 equals-requires : tie.Need-equals-requires
 equals-requires c κs = search needs
 
-sets-requires : tie.Need-sets-requires
-sets-requires c κs = search needs
-
-is-last-requires : tie.Need-is-last-requires
-is-last-requires c κs = search needs
+full-requires : tie.Need-full-requires
+full-requires c κs = search needs
 
 given-requires : tie.Need-given-requires
 given-requires c κs = search needs
@@ -36,8 +33,7 @@ on-suspicion-spec =
     (tie.spec
     unknown-requires
     equals-requires
-    sets-requires
-    is-last-requires
+    full-requires
     given-requires
     given-requires-2
     given-requires-3

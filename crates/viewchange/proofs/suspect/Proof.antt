@@ -2,8 +2,9 @@
 -- Assumes nothing.
 use mathlib.Core.Path.{sym, _∙_}
 use native.Mathlib.Omega.{arith}
-use borrow.Author.Tests.{leb-false, not-true, not-false}
+use borrow.Author.Tests.{not-true, not-false}
 use Rattle.viewchange.specs.ViewChange.{suspected, suspicion}
+use Rattle.viewchange.specs.ViewChangeLaws.{not-last}
 use borrow.Author.Needs.{needs}
 use Rattle.viewchange.proofs.suspect.Statement.{statement}
 use Rattle.viewchange.proofs.suspect.Tie as tie
@@ -23,7 +24,7 @@ returns c =
 add-t16 : tie.Need-add-t16
 add-t16 c =
     let set = sym (c .before .before .sets .ensures) ∙ not-false (c .before .before .sets .result) (c .before .if1 .left) in
-    omega (arith, leb-false 4294967295 (c .before .before .before .before .before .before .args .v .view .0) (rw set at (c .before .before .before .before .before .before .pre)))
+    omega (arith, not-last (c .before .before .before .before .before .before .args .r) (c .before .before .before .before .before .before .args .v) (c .before .before .before .before .before .before .args .site) (c .before .before .before .before .before .before .pre) set)
 
 notify-requires : tie.Need-notify-requires
 notify-requires c κs = search needs

@@ -6,26 +6,23 @@ use Prim.Native.Nat.{ℕ}
 use lib.ListN.{replicate}
 use Rattle.roster.specs.declared.Roster.{Roster}
 use Rattle.refusal.specs.declared.Refusal.the-variants.{Form}
-use Rattle.refusal.specs.Rules.{Rule, _gives_, judged}
+use Rattle.refusal.specs.Rules.{Rule, _gives_}
 use Rattle.frame.specs.declared.Heading.{Heading}
 use Rattle.frame.specs.declared.Reading.{Reading}
 use Rattle.frame.specs.Layout.{frameCapacity}
 use Rattle.frame.specs.Format.{readingWith}
 use Rattle.site.specs.declared.ViewRecord.{ViewRecord}
-use Rattle.site.specs.Reply.{Reply, refuse, buffer}
+use Rattle.site.specs.Reply.{Reply, buffer}
 use Rattle.viewchange.specs.declared.Outcome.{Outcome}
-use Rattle.viewchange.specs.ViewChange.{kindOf, frameRules, accepted, outcome}
+use Rattle.viewchange.specs.ViewChange.{kindOf, frameRules, outcome}
 
 -- what was read of a line by its heading: the kinds that are taken have no commands
 abbrev pub read : Heading → Reading
 read head = readingWith head (replicate frameCapacity 0)
 
--- the checks after CONFIG, of what was read, and what it then gives
+-- the checks after CONFIG, of what was read
 abbrev pub readRules : Roster → ViewRecord → Reading → List Rule
 readRules r v d = not (d .found) gives Form ∷ frameRules (kindOf (d .frame .kind)) r v (d .frame)
-
-unfoldable pub replied : Roster → ℕ → ViewRecord → Reading → Reply ViewRecord
-replied r own v d = judged (refuse v) (accepted (kindOf (d .frame .kind)) r own v (d .frame)) (readRules r v d)
 
 -- a call with `out` lent to it does this: it ends with that outcome, and `left` is the buffer that it leaves
 abbrev pub Done : Reply ViewRecord → List ℕ → Outcome → List ℕ → Type 0
