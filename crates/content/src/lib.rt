@@ -48,10 +48,11 @@ pub fn reported(proven: &[u64], held: &[u64]) -> Answer
     ensures { λ a. ⌜ a ≡ answer (spec.reportRules (now (proven .entry)) (now (held .entry))) ⌝ }
 {
     let wrong = !command::all_valid(proven) | !command::all_valid(held);
+    let answer = given(wrong, Refusal::Command, Answer::Accepted);
+    let stops = answer.refuses();
+    if stops {
+        return answer;
+    }
     let improper = disordered(proven) | disordered(held);
-    given(
-        wrong,
-        Refusal::Command,
-        given(improper, Refusal::History, Answer::Accepted),
-    )
+    given(improper, Refusal::History, Answer::Accepted)
 }
