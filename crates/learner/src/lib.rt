@@ -190,8 +190,8 @@ fn store(words: &mut [u64; 512], counts: &mut [u8; 16], site: u8, h: &[u64])
     let rows: &[u64] = words;
     let lengths: &[u8] = counts;
     let entry = table::row(rows, lengths, site as usize);
-    let newer = entry.len() <= h.len();
-    if newer {
+    let stored = entry.len() <= h.len();
+    if stored {
         table::store(words, counts, site as usize, h);
     }
 }
@@ -253,11 +253,11 @@ pub fn step_in_place(
 {
     let mut carried = [0u64; 64];
     let head = frame::read_into(line, TAKEN, &mut carried);
-    let answer = check(r, words, counts, learned, *count, head, &carried);
-    let stops = answer.refuses();
+    let early = check(r, words, counts, learned, *count, head, &carried);
+    let stops = early.refuses();
     if stops {
         return Answered {
-            answer,
+            answer: early,
             supporters: 0,
         };
     }

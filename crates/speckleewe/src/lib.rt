@@ -6,7 +6,7 @@ ghost use Rattle.frame.specs.Layout.{longest};
 ghost use Rattle.leader.specs.Leader as leading;
 ghost use Rattle.leader.specs.Parts as leader-parts;
 ghost use Rattle.learner.specs.Learner as learning;
-ghost use Rattle.learner.specs.Verdict as learner-parts;
+ghost use Rattle.learner.specs.Parts as learner-parts;
 ghost use Rattle.site.specs.Site as fresh;
 ghost use Rattle.speckleewe.specs.Outcomes.{accepts, changesView, freshSite, leads, learns, opens, siteOf, suspects, viewChangeOutcome, viewsLeft};
 use learner::State;
@@ -444,7 +444,7 @@ fn learner_in_parts<'p, 'a>(
 ) -> LearnerReply
     ensures { λ r. ⌜ learns (learner-parts.stateOf (now (words .entry)) (now (counts .entry)) (now (learned .entry)) (now (count .entry))) roster (now (line .entry)) r (learner-parts.stateOf (now (words .exit)) (now (counts .exit)) (now (learned .exit)) (now (count .exit))) ⌝ }
 {
-    let o = learner::step_in_place(roster, counts, words, count, learned, line);
+    let o = learner::step_in_place(roster, words, counts, learned, count, line);
     let learner_answer = o.answer;
     LearnerReply {
         answer: learner_answer.number(),
