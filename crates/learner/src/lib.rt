@@ -170,7 +170,8 @@ fn merge_claims(r: Roster, k: u8, learned: &[u64; 32], count: u8, h: &[u64]) -> 
 {
     let enough = r.quorum() <= k as u32;
     if enough {
-        return merge::merge(history::first(learned, count as usize), h);
+        let present = history::first(learned, count as usize);
+        return merge::merge(words::LIMIT, present, h);
     }
     Merged {
         split: false,

@@ -1,9 +1,9 @@
 // Merging two histories, and appending commands that are not there yet.
 ghost use mathlib.Core.Path.{_≡_};
 ghost use mathlib.Core.List.{_++_};
-ghost use Prim.Native.Nat.{min};
+ghost use Prim.Native.Nat.{min, _≤_};
 ghost use lib.ListN.{length, drop};
-ghost use Rattle.history.specs.Words.{limit};
+ghost use Rattle.words.specs.Sizes.{capacity};
 ghost use Rattle.merge.specs.Merge as spec;
 ghost use Rattle.merge.specs.Appending as appending;
 ghost use Rattle.merge.specs.Merged as answer;
@@ -102,6 +102,18 @@ pub fn nothing_new(g: &[u64], h: &[u64]) -> bool
     true
 }
 
+// Whether g with the commands of h appended that are not there yet is over the limit; one over 32 counts as 32.
+pub fn overflows(limit: u8, g: &[u64], h: &[u64]) -> bool
+    ensures { λ r. ⌜ r ≡ appending.overflows (min limit capacity) (now (g .entry)) (now (h .entry)) ⌝ }
+{
+    let most = smaller(limit as usize, words::CAPACITY);
+    let mut work = [0u64; history::WORK];
+    history::fill(&mut work, g);
+    let m = g.len();
+    let n = append(&mut work, m, h);
+    most < n
+}
+
 impl Merged {
     // No common extension exists.
     fn split() -> Merged
@@ -132,15 +144,15 @@ impl Merged {
     }
 }
 
-// The answer for a union `work` that is the merge if it extends h. Leaves `work` reordered.
-fn settle(work: &mut [u64], h: &[u64]) -> Merged
-    ensures { λ r. ⌜ r ≡ answer.answerOf limit (now (work .entry)) (now (h .entry)) ⌝ }
+// The answer for a union `work` that is the merge if it extends h, under a limit. Leaves `work` reordered.
+fn settle(most: usize, work: &mut [u64], h: &[u64]) -> Merged
+    ensures { λ r. ⌜ r ≡ answer.answerOf most (now (work .entry)) (now (h .entry)) ⌝ }
 {
     let extends = history::bring(work, h);
     if !extends {
         return Merged::split();
     }
-    let fits = work.len() <= History::LIMIT;
+    let fits = work.len() <= most;
     if !fits {
         return Merged::full();
     }
@@ -152,16 +164,16 @@ fn settle(work: &mut [u64], h: &[u64]) -> Merged
     }
 }
 
-// The merge of g and h: that there is none, that it is too long, or the merge. A g or h of over 32 commands is answered as too long. Where h
-// repeats a proposer and serial, so is no history, the answer may be that there is none though a common extension exists.
-pub fn merge(g: &[u64], h: &[u64]) -> Merged
-    ensures { λ r. ⌜ r ≡ answer.merged limit (now (g .entry)) (now (h .entry)) ⌝ }
+// The merge of g and h under a limit of at most 32.
+fn merge_within(most: usize, g: &[u64], h: &[u64]) -> Merged
+    requires { ⌜ most ≤ capacity ⌝ }
+    ensures { λ r. ⌜ r ≡ answer.merged most (now (g .entry)) (now (h .entry)) ⌝ }
 {
-    let short_g = g.len() <= History::LIMIT;
+    let short_g = g.len() <= most;
     if !short_g {
         return Merged::full();
     }
-    let short_h = h.len() <= History::LIMIT;
+    let short_h = h.len() <= most;
     if !short_h {
         return Merged::full();
     }
@@ -169,5 +181,14 @@ pub fn merge(g: &[u64], h: &[u64]) -> Merged
     history::fill(&mut work, g);
     let m = g.len();
     let n = append(&mut work, m, h);
-    settle(&mut work[..n], h)
+    settle(most, &mut work[..n], h)
+}
+
+// The merge of g and h: that there is none, that it is over the limit, or the merge. A limit over 32 counts as 32. A g or h over the limit is
+// answered as too long. Where h repeats a proposer and serial, so is no history, the answer may be that there is none though a common extension
+// exists.
+pub fn merge(limit: u8, g: &[u64], h: &[u64]) -> Merged
+    ensures { λ r. ⌜ r ≡ answer.merged (min limit capacity) (now (g .entry)) (now (h .entry)) ⌝ }
+{
+    merge_within(smaller(limit as usize, words::CAPACITY), g, h)
 }

@@ -9,6 +9,7 @@ use native.Mathlib.Numerals.{add-one}
 use native.Mathlib.Omega.{arith}
 use lib.Dec.{ltb}
 use borrow.Author.Tests.{ltb-true, ltb-false}
+pub use Rattle.basics.specs.Bools.{lt-or-le}
 use Rattle.basics.specs.Bools.{and-left, and-right, and-both, true-or-false}
 use Rattle.roster.specs.Sites.{toNat, countTo, allTo, maskTo}
 
@@ -30,10 +31,7 @@ toNat-not : (b : Bool) → toNat b + toNat (not b) ≡ 1
 toNat-not true = refl
 toNat-not false = refl
 
--- a number is below a bound or not; below n + 1, it is n or below n
-pub lt-or-le : (a b : ℕ) → (a < b) ⊎ (b ≤ a)
-lt-or-le a b = ⊎-elim (λ e. inl (ltb-true a b e)) (λ e. inr (ltb-false a b e)) (true-or-false (ltb a b))
-
+-- below n + 1, a number is n or below n
 pub last-or-below : {i n : ℕ} → i < suc n → (i ≡ n) ⊎ (i < n)
 last-or-below h = eq-or-lt-of-le (le-of-suc-le-suc h)
 

@@ -62,7 +62,7 @@ fn extension(text: &[u8], h: &[u64], g: &[u64]) {
 
 fn merged(text: &[u8], g: &[u64], h: &[u64]) {
     put(text);
-    let m = merge::merge(g, h);
+    let m = merge::merge(words::LIMIT, g, h);
     if m.split {
         put(b"SPLIT\n");
         return;

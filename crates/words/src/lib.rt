@@ -4,6 +4,12 @@ ghost use Prim.Native.Nat.{_≤_};
 ghost use lib.ListN.{length, take};
 ghost use Rattle.words.specs.Words as spec;
 
+// The rule: how many commands a history may have. It is handed to the functions that need it.
+pub const LIMIT: u8 = 32;
+
+// The capacity: how many words the array of a history and a row of a table have.
+pub const CAPACITY: usize = 32;
+
 // The first n words, or all of them if there are fewer.
 pub fn first<'a>(words: &'a [u64], n: usize) -> &'a [u64]
     ensures { λ r. ⌜ now r ≡ take n (now (words .entry)) ⌝ }

@@ -24,7 +24,7 @@ returns : tie.Need-returns
 returns c =
     let bring-call = c .before .before .before .before .bring in
     let if1 = c .before .if1 in
-    c .split .ensures ∙ sym (answer-split _ _ (sym (bring-call .ensures .0) ∙ not-true _ (if1 .taken)))
+    c .split .ensures ∙ sym (answer-split _ _ _ (sym (bring-call .ensures .0) ∙ not-true _ (if1 .taken)))
 
 full-requires : tie.Need-full-requires
 full-requires c κs = search needs
@@ -37,7 +37,7 @@ returns-2 c =
     let bring-call = c .before .before .before .before .before .bring in
     let if1 = c .before .before .if1 in
     let if2 = c .before .if2 in
-    c .full .ensures ∙ sym (answer-full _ _ (bring-call .last .0) (sym (bring-call .ensures .0) ∙ not-false _ (if1 .left)) (bring-call .kept .0) (not-true _ (if2 .taken)))
+    c .full .ensures ∙ sym (answer-full _ _ _ (bring-call .last .0) (sym (bring-call .ensures .0) ∙ not-false _ (if1 .left)) (bring-call .kept .0) (not-true _ (if2 .taken)))
 
 put-in-order-requires : tie.Need-put-in-order-requires
 put-in-order-requires c κs = search needs
@@ -54,7 +54,7 @@ returns-3 c =
     let if1 = c .before .before .before .before .before .before .before .if1 in
     let if2 = c .before .before .before .before .before .before .if2 in
     let put-in-order-call = c .before .before .before .before .put-in-order in
-    answer-found _ _ (bring-call .last .0) (c .of .result) (sym (bring-call .ensures .0) ∙ not-false _ (if1 .left)) (bring-call .kept .0) (not-false _ (if2 .left))
+    answer-found _ _ _ (bring-call .last .0) (c .of .result) (sym (bring-call .ensures .0) ∙ not-false _ (if1 .left)) (bring-call .kept .0) (not-false _ (if2 .left))
     (c .of .ensures ∙ ap stored (put-in-order-call .ensures ∙ ap canonical (bring-call .ensures .1) ∙ canonical-unique (fronted-equivalent _ _)))
 
 pub settle-spec : {M : Type 1} → statement M
