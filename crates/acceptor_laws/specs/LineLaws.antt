@@ -75,7 +75,6 @@ use Rattle.acceptor.specs.Acceptor.{
   inBallot,
   signing,
   sign,
-  verifiedBy,
   matches,
   certificateOf,
   proves,
@@ -85,7 +84,7 @@ use Rattle.acceptor.specs.Acceptor.{
   accepted,
   step,
 }
-use Rattle.acceptor.specs.AcceptorLaws.{Accepts, Stepped, refuses, accepting, stepped, carried-short}
+use Rattle.acceptor.specs.AcceptorLaws.{verifiedBy, Accepts, Stepped, refuses, accepting, stepped, carried-short}
 
 -- ---- the kinds that are taken: 1 P1A, 2 FAST, 4 PROPOSE, 5 P2A, 6 VERIFY
 

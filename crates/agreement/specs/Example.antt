@@ -137,8 +137,8 @@ unfolding
     judged
     digit isDigit valueOf allDigits byteOf numberFrom digitsOf spell numbers allFit total
     uses isKind zeroUnless unusedZero lineOf proper allZero fits writable framed frameOf isLine readingOf malformed
-    learner.config learner.sender learner.stale learner.proof learner.contradicts learner.withVote learner.supporters learner.claimed
-    learner.splits learner.overflows learner.after learner.step run
+    learner.config learner.contradicts learner.withVote learner.supporters learner.claimed learner.claims learner.further learner.merging
+    learner.step run
 learns = (refl, refl)
 
 -- and the claim holds of it

@@ -119,16 +119,16 @@ module _ (r : Roster) (own : ℕ) (s : State) (out : List ℕ) where
   concludes-not q b eq eb e = let few : reaches (s .reported) (quorum r) ≡ false = rw (← eq, ← eb) e in (rw few, rw few)
 
   -- on it: the commands of the proposal d are there whole
-  proposed-whole : (p : List ℕ) (d : History) → p ≡ pendingOf s → d ≡ stored (proposal (r .n) (reportIn s (s .proven)) (reportIn s (s .held)) p)
+  proposed-whole : (p : List ℕ) (d : History) → p ≡ pendingOf s → d ≡ stored (proposal limit (r .n) (reportIn s (s .proven)) (reportIn s (s .held)) p)
       → commands d ≡ proposed r s
   unfolding proposed
   proposed-whole p d ep ed =
-      rw (ed, ep) (commands-stored _ (proposal-short (r .n) (reportIn s (s .proven)) (reportIn s (s .held)) (pendingOf s)))
+      rw (ed, ep) (commands-stored _ (proposal-short limit (r .n) (reportIn s (s .proven)) (reportIn s (s .held)) (pendingOf s)))
 
   -- p is what is pending, d the proposal and h its commands, n the length of its line and l the buffer, e what stays pending
   pub concludes : (q : ℕ) (b : Bool) → q ≡ quorum r → b ≡ reaches (s .reported) q → b ≡ true → (p : List ℕ) (d : History) (h : List ℕ) (n : ℕ) (l : List ℕ) (e : History)
       → p ≡ pendingOf s
-      → d ≡ stored (proposal (r .n) (reportIn s (s .proven)) (reportIn s (s .held)) p)
+      → d ≡ stored (proposal limit (r .n) (reportIn s (s .proven)) (reportIn s (s .held)) p)
       → h ≡ commands d
       → Handed (sendsIf (not (eqb (length h) 0)) (p2a own (s .view) (s .ballot) h)) n out l
       → e ≡ stored (remaining (pendingOf s) h)

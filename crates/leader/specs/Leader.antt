@@ -175,7 +175,7 @@ reportIn s t = report (t .words) (t .counts) (s .reported)
 
 -- what the leader proposes of the reports and of what is pending, and its P2A
 unfoldable pub proposed : Roster → State → List ℕ
-proposed r s = proposal (r .n) (reportIn s (s .proven)) (reportIn s (s .held)) (pendingOf s)
+proposed r s = proposal limit (r .n) (reportIn s (s .proven)) (reportIn s (s .held)) (pendingOf s)
 
 abbrev pub p2a : ℕ → View → Ballot → List ℕ → Frame
 p2a own view ballot h = message 5 own view ballot (record { 0 = 0 }) 0 h []

@@ -167,6 +167,7 @@ fn conclude<'a>(
     let all: &[u64] = pending;
     let p = history::first(all, present as usize);
     let proposed = proposal::propose(
+        words::LIMIT,
         proven,
         proven_counts,
         held,

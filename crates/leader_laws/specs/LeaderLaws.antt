@@ -472,13 +472,13 @@ chosen-is r s = longest-is (r .n) (reportIn s (s .proven))
 pub proposal-extends-chosen : (r : Roster) (s : State) → Extends (proposed r s) (chosen r s)
 unfolding proposed
 proposal-extends-chosen r s =
-    proposal-extends (r .n) (reportIn s (s .proven)) (reportIn s (s .held)) (pendingOf s)
+    proposal-extends limit (r .n) (reportIn s (s .proven)) (reportIn s (s .held)) (pendingOf s)
     (longest-short (r .n) (s .proven .words) (s .proven .counts) (s .reported))
 
 -- and has at most 32 commands
 pub proposed-short : (r : Roster) (s : State) → length (proposed r s) ≤ limit
 unfolding proposed
-proposed-short r s = proposals.proposal-short (r .n) (reportIn s (s .proven)) (reportIn s (s .held)) (pendingOf s)
+proposed-short r s = proposals.proposal-short limit (r .n) (reportIn s (s .proven)) (reportIn s (s .held)) (pendingOf s)
 
 -- every report in a valid table is a valid history
 reports-valid : (n : ℕ) (s : State) (t : Table) → n ≤ sites → validTable limit n t ≡ true → (i : ℕ) → i < n → validHistory (reportIn s t i) ≡ true
@@ -489,7 +489,7 @@ reports-valid n s t l e i p =
 pub proposal-valid-of : (r : Roster) (s : State) → r .n ≤ sites → Lendable (r .n) s → validHistory (proposed r s) ≡ true
 unfolding proposed
 proposal-valid-of r s l c =
-    proposal-valid (r .n) (reportIn s (s .proven)) (reportIn s (s .held)) (pendingOf s) (reports-valid (r .n) s (s .proven) l (c .proven-valid))
+    proposal-valid limit (r .n) (reportIn s (s .proven)) (reportIn s (s .held)) (pendingOf s) (reports-valid (r .n) s (s .proven) l (c .proven-valid))
     (λ i p. valid-parts _ (reports-valid (r .n) s (s .held) l (c .held-valid) i p) .commands) (pending-is limit (s .pending) (c .pending-valid) .right)
 
 -- so after an accepted P1B

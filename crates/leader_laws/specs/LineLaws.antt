@@ -157,7 +157,7 @@ module _ {own : ℕ} {s : State} (f : Fits own s) where
   proposed-each : (r : Roster) → EachFits (proposed r s)
   unfolding proposed
   proposed-each r =
-      proposal-fits (r .n) (reportIn s (s .proven)) (reportIn s (s .held)) (pendingOf s) (λ i p. each-report s (s .proven) (f .proven-fits) i)
+      proposal-fits limit (r .n) (reportIn s (s .proven)) (reportIn s (s .held)) (pendingOf s) (λ i p. each-report s (s .proven) (f .proven-fits) i)
       (λ i p. each-report s (s .held) (f .held-fits) i) pending-each
 
   -- P2A, P1A and FAST of it

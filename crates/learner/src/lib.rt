@@ -170,7 +170,8 @@ fn merge_claims(r: Roster, k: u8, learned: &[u64; 32], count: u8, h: &[u64]) -> 
 {
     let enough = r.quorum() <= k as u32;
     if enough {
-        return merge::merge(words::LIMIT, history::first(learned, count as usize), h);
+        let present = history::first(learned, count as usize);
+        return merge::merge(words::LIMIT, present, h);
     }
     Merged {
         split: false,
@@ -190,8 +191,8 @@ fn store(words: &mut [u64; 512], counts: &mut [u8; 16], site: u8, h: &[u64])
     let rows: &[u64] = words;
     let lengths: &[u8] = counts;
     let entry = table::row(rows, lengths, site as usize);
-    let newer = entry.len() <= h.len();
-    if newer {
+    let stored = entry.len() <= h.len();
+    if stored {
         table::store(words, counts, site as usize, h);
     }
 }
@@ -253,11 +254,11 @@ pub fn step_in_place(
 {
     let mut carried = [0u64; 64];
     let head = frame::read_into(words::LIMIT, line, TAKEN, &mut carried);
-    let answer = check(r, words, counts, learned, *count, head, &carried);
-    let stops = answer.refuses();
+    let early = check(r, words, counts, learned, *count, head, &carried);
+    let stops = early.refuses();
     if stops {
         return Answered {
-            answer,
+            answer: early,
             supporters: 0,
         };
     }

@@ -7,9 +7,6 @@ ghost use Rattle.proposal.specs.Proposal as spec;
 ghost use Rattle.proposal.specs.Code.Work.{Begins};
 use history::History;
 
-// How many words the array of a history has: `words::CAPACITY`.
-const CAPACITY: usize = 32;
-
 // The smaller of two numbers.
 fn smaller(a: usize, b: usize) -> usize
     ensures { λ r. ⌜ r ≡ min a b ⌝ }
@@ -102,9 +99,9 @@ pub fn propose<'a>(
 ) -> History
     ensures { λ h. ⌜ h ≡ stored (spec.proposal (min limit capacity) n (spec.report (now (proven .entry)) (now («proven_counts» .entry)) reported) (spec.report (now (held .entry)) (now («held_counts» .entry)) reported) (now (pending .entry))) ⌝ }
 {
-    let most = smaller(limit as usize, CAPACITY);
+    let most = smaller(limit as usize, words::CAPACITY);
     let best = longest(proven, proven_counts, reported, n);
-    let mut work = [0u64; CAPACITY];
+    let mut work = [0u64; words::CAPACITY];
     let all = assemble(
         &mut work[..most],
         best,
@@ -143,7 +140,7 @@ fn keep(dst: &mut [u64], pending: &[u64], h: &[u64]) -> usize
 pub fn remaining(pending: &[u64], h: &[u64]) -> History
     ensures { λ k. ⌜ k ≡ stored (spec.remaining (now (pending .entry)) (now (h .entry))) ⌝ }
 {
-    let mut work = [0u64; CAPACITY];
+    let mut work = [0u64; words::CAPACITY];
     let n = keep(&mut work, pending, h);
     History::of(&work[..n])
 }

@@ -7,7 +7,7 @@ use Rattle.history.specs.Words.{commands, padded}
 use Rattle.merge.specs.Merge.{IsMerge}
 use lib.ListN.{length}
 use Rattle.roster.specs.declared.Roster.{Roster}
-use Rattle.frame.specs.Layout.{capacity, withValues}
+use Rattle.frame.specs.Layout.{frameCapacity, withValues}
 use Rattle.frame.specs.Format.{lineOf}
 use Rattle.learner.specs.declared.Outcome.{Outcome}
 use Rattle.refusal.specs.Refusal.{answerNumber}
@@ -33,7 +33,7 @@ four = record { n = 4; f = 1 }
 
 -- the line of a vote of a site in ballot 1, with proofs of sites 0, 1 and 2
 abbrev pub vote : ℕ → List ℕ → List ℕ
-vote site h = lineOf (withValues (7 ∷ site ∷ 0 ∷ 1 ∷ 0 ∷ 7 ∷ length h ∷ 0 ∷ []) (padded capacity h))
+vote site h = lineOf (withValues (7 ∷ site ∷ 0 ∷ 1 ∷ 0 ∷ 7 ∷ length h ∷ 0 ∷ []) (padded frameCapacity h))
 
 -- what a learner answers, and how many supporters it names
 abbrev pub answers : List Outcome → List (List ℕ)

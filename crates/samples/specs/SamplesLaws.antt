@@ -24,7 +24,7 @@ use Rattle.refusal.specs.Rules.{judged}
 use Rattle.frame.specs.Hex.{digit, isDigit, valueOf, allDigits, byteOf, numberFrom, digitsOf, spell, numbers, allFit, total}
 use Rattle.frame.specs.Kinds.{uses, isKind, zeroUnless, unusedZero}
 use Rattle.frame.specs.Format.{lineOf, proper, allZero, fits, writable, framed, frameOf, isLine, readingOf, malformed}
-use Rattle.learner.specs.Learner.{fresh, config, sender, stale, proof, contradicts, withVote, supporters, claimed, splits, overflows, after, step}
+use Rattle.learner.specs.Learner.{fresh, config, contradicts, withVote, supporters, claimed, claims, further, merging, step}
 use Rattle.learner.specs.Run.{run, outcomes}
 use Rattle.samples.specs.Samples.{Sample, order, extension, no-extension, merged, split, votes, four, answers, Holds, samples, AllHold, end, line}
 
@@ -103,5 +103,5 @@ unfolding
     judged
     digit isDigit valueOf allDigits byteOf numberFrom digitsOf spell numbers allFit total
     uses isKind zeroUnless unusedZero lineOf proper allZero fits writable framed frameOf isLine readingOf malformed
-    config sender stale proof wrong improper contradicts withVote supporters claimed splits overflows after step run outcomes
+    config wrong improper contradicts withVote supporters claimed claims further merging step run outcomes
 samples-hold = each samples refl

@@ -41,7 +41,7 @@ use Rattle.history.proofs.History as S
 use Rattle.history.proofs.History.Laws as S′
 use Rattle.table.proofs.Table as E
 use Rattle.table.proofs.Table.Laws as E′
-use Rattle.learner.specs.Verdict.{stateOf}
+use Rattle.learner.specs.Parts.{stateOf}
 use Rattle.learner.specs.declared.State.{State}
 use Rattle.learner.proofs.State as T
 use Rattle.learner.proofs.State.Laws as T′

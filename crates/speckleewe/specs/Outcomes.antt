@@ -40,29 +40,29 @@ abbrev pub viewsLeft : Reply → ViewRecord → ViewChangeOutcome
 viewsLeft r v = record { answer = r .answer; sent = r .sent; views = v }
 
 -- the record before, the roster, the own number, the line and the buffer before; the outcome and the buffer after
-abbrev pub changesView : ViewRecord → Roster → ℕ → List ℕ → List ℕ → ViewChangeOutcome → List ℕ → Type 0
-changesView v r own line out o buffer = (o ≡ viewChangeOutcome (change.returned r own v line out)) × (buffer ≡ change.output r own v line out)
+abbrev pub viewChangeCall : ViewRecord → Roster → ℕ → List ℕ → List ℕ → ViewChangeOutcome → List ℕ → Type 0
+viewChangeCall v r own line out o buffer = (o ≡ viewChangeOutcome (change.returned r own v line out)) × (buffer ≡ change.output r own v line out)
 
 -- "The host's own suspicion enters as a SUSPICION from itself."
-abbrev pub suspects : ViewRecord → Roster → ℕ → View → List ℕ → ViewChangeOutcome → List ℕ → Type 0
-suspects v r own view = changesView v r own (change.ownSuspicion own view)
+abbrev pub suspicionCall : ViewRecord → Roster → ℕ → View → List ℕ → ViewChangeOutcome → List ℕ → Type 0
+suspicionCall v r own view = viewChangeCall v r own (change.ownSuspicion own view)
 
 -- ---- a site's acceptor: the view-change record stays
 
 abbrev pub freshSite : Site
 freshSite = record { views = views.fresh; acceptor = acceptor.fresh }
 
--- a site of its parts: the record, the marks, and the counts and words of what is held, proven and verified
+-- a site of its parts, in the record's order: the view-change record, the marks, and the counts and words of what is held, proven and verified
 abbrev pub siteOf : ViewRecord → Marks → ℕ → List ℕ → ℕ → List ℕ → List ℕ → List ℕ → Site
-siteOf v k heldCount held provenCount proven counts words = record { views = v; acceptor = stateOf k heldCount held provenCount proven counts words }
+siteOf v k heldCount held provenCount proven counts words = record { views = v; acceptor = stateOf k held heldCount proven provenCount words counts }
 
 -- what the role's outcome leaves
 abbrev pub siteGiven : ViewRecord → accepting.Outcome → Left Site
 siteGiven v o = record { reply = record { answer = answerNumber (o .answer); sent = o .sent }; after = record { views = v; acceptor = o .state } }
 
 -- the site before, the roster, the own number, the line and the buffer before; the answer in numbers, the site and the buffer after
-abbrev pub accepts : Site → Roster → ℕ → List ℕ → List ℕ → Reply → Site → List ℕ → Type 0
-accepts s r own line out a t buffer =
+abbrev pub acceptorCall : Site → Roster → ℕ → List ℕ → List ℕ → Reply → Site → List ℕ → Type 0
+acceptorCall s r own line out a t buffer =
     (record { reply = a; after = t } ≡ siteGiven (s .views) (acceptor.returned r own (s .views) (s .acceptor) line out))
     × (buffer ≡ acceptor.output r own (s .views) (s .acceptor) line out)
 
@@ -71,18 +71,18 @@ accepts s r own line out a t buffer =
 abbrev pub leaderGiven : leading.Outcome → Left leading-state.State
 leaderGiven o = record { reply = record { answer = answerNumber (o .answer); sent = o .sent }; after = o .state }
 
-abbrev pub leads : leading-state.State → Roster → ℕ → List ℕ → List ℕ → Reply → leading-state.State → List ℕ → Type 0
-leads s r own line out a t buffer = (record { reply = a; after = t } ≡ leaderGiven (leader.returned r own s line out)) × (buffer ≡ leader.output r own s line out)
+abbrev pub leaderCall : leading-state.State → Roster → ℕ → List ℕ → List ℕ → Reply → leading-state.State → List ℕ → Type 0
+leaderCall s r own line out a t buffer = (record { reply = a; after = t } ≡ leaderGiven (leader.returned r own s line out)) × (buffer ≡ leader.output r own s line out)
 
-abbrev pub opens : leading-state.State → Roster → ℕ → Opening → List ℕ → Reply → leading-state.State → List ℕ → Type 0
-opens s r own p out a t buffer =
+abbrev pub openingCall : leading-state.State → Roster → ℕ → Opening → List ℕ → Reply → leading-state.State → List ℕ → Type 0
+openingCall s r own p out a t buffer =
     (record { reply = a; after = t } ≡ leaderGiven (leader.openingReturned r own s (p .ballot) (p .fast) out))
     × (buffer ≡ leader.openingOutput r own s (p .ballot) (p .fast) out)
 
 -- ---- a learner
 
 -- the state before, the roster and the line; the answer in numbers and the state after
-abbrev pub learns : State → Roster → List ℕ → LearnerReply → State → Type 0
-learns s r line a t =
+abbrev pub learnerCall : State → Roster → List ℕ → LearnerReply → State → Type 0
+learnerCall s r line a t =
     (a ≡ record { answer = answerNumber (learner.step r s line .answer); supporters = learner.step r s line .supporters })
     × (t ≡ learner.step r s line .state)

@@ -6,9 +6,9 @@ ghost use Rattle.frame.specs.Layout.{longest};
 ghost use Rattle.leader.specs.Leader as leading;
 ghost use Rattle.leader.specs.Parts as leader-parts;
 ghost use Rattle.learner.specs.Learner as learning;
-ghost use Rattle.learner.specs.Verdict as learner-parts;
+ghost use Rattle.learner.specs.Parts as learner-parts;
 ghost use Rattle.site.specs.Site as fresh;
-ghost use Rattle.speckleewe.specs.Outcomes.{accepts, changesView, freshSite, leads, learns, opens, siteOf, suspects, viewChangeOutcome, viewsLeft};
+ghost use Rattle.speckleewe.specs.Outcomes.{acceptorCall, viewChangeCall, freshSite, leaderCall, learnerCall, openingCall, siteOf, suspicionCall, viewChangeOutcome, viewsLeft};
 use learner::State;
 use roster::Ballot;
 use roster::Roster;
@@ -144,7 +144,7 @@ pub extern "C" fn speckleewe_view_change<'a>(
     line: &'a [u8],
     out: &'a mut [u8],
 ) -> Reply
-    ensures { λ r. ⌜ changesView (now (views .entry)) roster own (now (line .entry)) (now (out .entry)) (viewsLeft r (now (views .exit))) (now (out .exit)) ⌝ }
+    ensures { λ r. ⌜ viewChangeCall (now (views .entry)) roster own (now (line .entry)) (now (out .entry)) (viewsLeft r (now (views .exit))) (now (out .exit)) ⌝ }
 {
     let before = *views;
     let o = view_change_by_value(before, roster, own, line, out);
@@ -178,7 +178,7 @@ pub extern "C" fn speckleewe_suspicion(
     view: View,
     out: &mut [u8],
 ) -> Reply
-    ensures { λ r. ⌜ suspects (now (views .entry)) roster own view (now (out .entry)) (viewsLeft r (now (views .exit))) (now (out .exit)) ⌝ }
+    ensures { λ r. ⌜ suspicionCall (now (views .entry)) roster own view (now (out .entry)) (viewsLeft r (now (views .exit))) (now (out .exit)) ⌝ }
 {
     let before = *views;
     let o = suspicion_by_value(before, roster, own, view, out);
@@ -193,9 +193,9 @@ pub extern "C" fn speckleewe_suspicion(
 fn acceptor_in_parts<'p, 'a>(
     views: ViewRecord,
     marks: acceptor::Marks,
-    hcount: &'p mut u8,
+    held_count: &'p mut u8,
     held: &'p mut [u64; 32],
-    pcount: &'p mut u8,
+    proven_count: &'p mut u8,
     proven: &'p mut [u64; 32],
     counts: &'p mut [u8; 16],
     words: &'p mut [u64; 512],
@@ -204,19 +204,19 @@ fn acceptor_in_parts<'p, 'a>(
     line: &'a [u8],
     out: &'a mut [u8],
 ) -> SiteOutcome
-    ensures { λ o. ⌜ accepts (siteOf views marks (now (hcount .entry)) (now (held .entry)) (now (pcount .entry)) (now (proven .entry)) (now (counts .entry)) (now (words .entry))) roster own (now (line .entry)) (now (out .entry)) (record { answer = o .answer; sent = o .sent }) (siteOf views (o .marks) (now (hcount .exit)) (now (held .exit)) (now (pcount .exit)) (now (proven .exit)) (now (counts .exit)) (now (words .exit))) (now (out .exit)) ⌝ }
+    ensures { λ o. ⌜ acceptorCall (siteOf views marks (now («held_count» .entry)) (now (held .entry)) (now («proven_count» .entry)) (now (proven .entry)) (now (counts .entry)) (now (words .entry))) roster own (now (line .entry)) (now (out .entry)) (record { answer = o .answer; sent = o .sent }) (siteOf views (o .marks) (now («held_count» .exit)) (now (held .exit)) (now («proven_count» .exit)) (now (proven .exit)) (now (counts .exit)) (now (words .exit))) (now (out .exit)) ⌝ }
 {
     let o = acceptor::step_in_place(
         roster,
         own,
         views,
         marks,
-        hcount,
         held,
-        pcount,
+        held_count,
         proven,
-        counts,
+        proven_count,
         words,
+        counts,
         line,
         out,
     );
@@ -239,13 +239,13 @@ pub extern "C" fn speckleewe_acceptor<'a>(
     line: &'a [u8],
     out: &'a mut [u8],
 ) -> Reply
-    ensures { λ r. ⌜ accepts (now (site .entry)) roster own (now (line .entry)) (now (out .entry)) r (now (site .exit)) (now (out .exit)) ⌝ }
+    ensures { λ r. ⌜ acceptorCall (now (site .entry)) roster own (now (line .entry)) (now (out .entry)) r (now (site .exit)) (now (out .exit)) ⌝ }
 {
     let marks = acceptor::Marks {
         ballot: site.acceptor.ballot,
         fast: site.acceptor.fast,
         signed: site.acceptor.signed,
-        certified: site.acceptor.certified,
+        proven_ballot: site.acceptor.proven_ballot,
         certificate: site.acceptor.certificate,
     };
     let o = acceptor_in_parts(
@@ -265,7 +265,7 @@ pub extern "C" fn speckleewe_acceptor<'a>(
     site.acceptor.ballot = o.marks.ballot;
     site.acceptor.fast = o.marks.fast;
     site.acceptor.signed = o.marks.signed;
-    site.acceptor.certified = o.marks.certified;
+    site.acceptor.proven_ballot = o.marks.proven_ballot;
     site.acceptor.certificate = o.marks.certificate;
     Reply {
         answer: o.answer,
@@ -278,16 +278,16 @@ fn leader_in_parts<'p, 'a>(
     marks: leader::Marks,
     count: &'p mut u8,
     pending: &'p mut [u64; 32],
-    pcounts: &'p mut [u8; 16],
+    proven_counts: &'p mut [u8; 16],
     proven: &'p mut [u64; 512],
-    hcounts: &'p mut [u8; 16],
+    held_counts: &'p mut [u8; 16],
     held: &'p mut [u64; 512],
     roster: Roster,
     own: u8,
     line: &'a [u8],
     out: &'a mut [u8],
 ) -> LeaderOutcome
-    ensures { λ o. ⌜ leads (leader-parts.stateOf marks (now (pending .entry)) (now (count .entry)) (now (proven .entry)) (now (pcounts .entry)) (now (held .entry)) (now (hcounts .entry))) roster own (now (line .entry)) (now (out .entry)) (record { answer = o .answer; sent = o .sent }) (leader-parts.stateOf (o .marks) (now (pending .exit)) (now (count .exit)) (now (proven .exit)) (now (pcounts .exit)) (now (held .exit)) (now (hcounts .exit))) (now (out .exit)) ⌝ }
+    ensures { λ o. ⌜ leaderCall (leader-parts.stateOf marks (now (pending .entry)) (now (count .entry)) (now (proven .entry)) (now («proven_counts» .entry)) (now (held .entry)) (now («held_counts» .entry))) roster own (now (line .entry)) (now (out .entry)) (record { answer = o .answer; sent = o .sent }) (leader-parts.stateOf (o .marks) (now (pending .exit)) (now (count .exit)) (now (proven .exit)) (now («proven_counts» .exit)) (now (held .exit)) (now («held_counts» .exit))) (now (out .exit)) ⌝ }
 {
     let o = leader::step_in_place(
         roster,
@@ -296,9 +296,9 @@ fn leader_in_parts<'p, 'a>(
         pending,
         count,
         proven,
-        pcounts,
+        proven_counts,
         held,
-        hcounts,
+        held_counts,
         line,
         out,
     );
@@ -321,7 +321,7 @@ pub extern "C" fn speckleewe_leader<'a>(
     line: &'a [u8],
     out: &'a mut [u8],
 ) -> Reply
-    ensures { λ r. ⌜ leads (now (state .entry)) roster own (now (line .entry)) (now (out .entry)) r (now (state .exit)) (now (out .exit)) ⌝ }
+    ensures { λ r. ⌜ leaderCall (now (state .entry)) roster own (now (line .entry)) (now (out .entry)) r (now (state .exit)) (now (out .exit)) ⌝ }
 {
     let marks = leader::Marks {
         view: state.view,
@@ -357,16 +357,16 @@ fn opening_in_parts<'p, 'a>(
     marks: leader::Marks,
     count: &'p mut u8,
     pending: &'p mut [u64; 32],
-    pcounts: &'p mut [u8; 16],
+    proven_counts: &'p mut [u8; 16],
     proven: &'p mut [u64; 512],
-    hcounts: &'p mut [u8; 16],
+    held_counts: &'p mut [u8; 16],
     held: &'p mut [u64; 512],
     roster: Roster,
     own: u8,
     opening: Opening,
     out: &'a mut [u8],
 ) -> LeaderOutcome
-    ensures { λ o. ⌜ opens (leader-parts.stateOf marks (now (pending .entry)) (now (count .entry)) (now (proven .entry)) (now (pcounts .entry)) (now (held .entry)) (now (hcounts .entry))) roster own opening (now (out .entry)) (record { answer = o .answer; sent = o .sent }) (leader-parts.stateOf (o .marks) (now (pending .exit)) (now (count .exit)) (now (proven .exit)) (now (pcounts .exit)) (now (held .exit)) (now (hcounts .exit))) (now (out .exit)) ⌝ }
+    ensures { λ o. ⌜ openingCall (leader-parts.stateOf marks (now (pending .entry)) (now (count .entry)) (now (proven .entry)) (now («proven_counts» .entry)) (now (held .entry)) (now («held_counts» .entry))) roster own opening (now (out .entry)) (record { answer = o .answer; sent = o .sent }) (leader-parts.stateOf (o .marks) (now (pending .exit)) (now (count .exit)) (now (proven .exit)) (now («proven_counts» .exit)) (now (held .exit)) (now («held_counts» .exit))) (now (out .exit)) ⌝ }
 {
     let ballot = opening.ballot;
     let o = leader::open_in_place(
@@ -376,9 +376,9 @@ fn opening_in_parts<'p, 'a>(
         pending,
         count,
         proven,
-        pcounts,
+        proven_counts,
         held,
-        hcounts,
+        held_counts,
         ballot,
         opening.fast,
         out,
@@ -402,7 +402,7 @@ pub extern "C" fn speckleewe_open_ballot<'a>(
     opening: Opening,
     out: &'a mut [u8],
 ) -> Reply
-    ensures { λ r. ⌜ opens (now (state .entry)) roster own opening (now (out .entry)) r (now (state .exit)) (now (out .exit)) ⌝ }
+    ensures { λ r. ⌜ openingCall (now (state .entry)) roster own opening (now (out .entry)) r (now (state .exit)) (now (out .exit)) ⌝ }
 {
     let marks = leader::Marks {
         view: state.view,
@@ -442,9 +442,9 @@ fn learner_in_parts<'p, 'a>(
     roster: Roster,
     line: &'a [u8],
 ) -> LearnerReply
-    ensures { λ r. ⌜ learns (learner-parts.stateOf (now (words .entry)) (now (counts .entry)) (now (learned .entry)) (now (count .entry))) roster (now (line .entry)) r (learner-parts.stateOf (now (words .exit)) (now (counts .exit)) (now (learned .exit)) (now (count .exit))) ⌝ }
+    ensures { λ r. ⌜ learnerCall (learner-parts.stateOf (now (words .entry)) (now (counts .entry)) (now (learned .entry)) (now (count .entry))) roster (now (line .entry)) r (learner-parts.stateOf (now (words .exit)) (now (counts .exit)) (now (learned .exit)) (now (count .exit))) ⌝ }
 {
-    let o = learner::step_in_place(roster, counts, words, count, learned, line);
+    let o = learner::step_in_place(roster, words, counts, learned, count, line);
     let learner_answer = o.answer;
     LearnerReply {
         answer: learner_answer.number(),
@@ -455,7 +455,7 @@ fn learner_in_parts<'p, 'a>(
 // A step of a learner on the state that the host lends.
 #[no_mangle]
 pub extern "C" fn speckleewe_learner(state: &mut State, roster: Roster, line: &[u8]) -> LearnerReply
-    ensures { λ r. ⌜ learns (now (state .entry)) roster (now (line .entry)) r (now (state .exit)) ⌝ }
+    ensures { λ r. ⌜ learnerCall (now (state .entry)) roster (now (line .entry)) r (now (state .exit)) ⌝ }
 {
     learner_in_parts(
         &mut state.entries.counts,
