@@ -27,10 +27,11 @@ use Rattle.history.specs.TakesLaws.{equivalent-sym}
 use Rattle.history.specs.CanonicalLaws.{canonical-equivalent, canonical-length, canonical-is-canonical}
 use Rattle.history.specs.OrderLaws.{repeated-along, all-valid-along}
 use Rattle.history.specs.ValidLaws.{valid-parts, parts-valid, not-improper, valid-nil}
-use Rattle.history.specs.Words.{limit, validStored}
+use Rattle.history.specs.Words.{limit, capacity, validStored}
 use Rattle.history.specs.FitLaws.{EachFits, none, each-take, each-padded, each-along}
 use Rattle.history.specs.WordsLaws.{stored-valid, valid-stored-history, valid-stored-length}
 use Rattle.merge.specs.Merge.{appended}
+use Rattle.merge.specs.Appending.{overflows}
 use Rattle.merge.specs.MergeLaws.{appended-all-valid, appended-distinct}
 use Rattle.merge.specs.AppendingLaws.{each-appended}
 use Rattle.table.specs.declared.Table.{Table}
@@ -51,6 +52,9 @@ use Rattle.site.specs.Reply.{silent, sends, Reply, refuse, accept}
 use Rattle.site.specs.ReplyLaws.{silent-sends, sends-same, Sent, sent-line}
 use Rattle.acceptor.specs.declared.State.{State}
 use Rattle.acceptor.specs.Acceptor.{
+  opening,
+  lengthened,
+  verifying,
   fresh,
   Kind,
   P1A,
@@ -118,20 +122,20 @@ kind-of = (refl, refl, refl, refl, refl)
 -- ---- which frames FORM allows
 
 -- P1B, VERIFY and P2B leave 0 what their kind doesn't use
-p1b-proper : (own : ℕ) (ballot proven : Ballot) (mask : ℕ) (h k : List ℕ) → length h ≤ limit → length k ≤ limit
-    → proper (message 3 own (record { 0 = 0 }) ballot proven mask h k) ≡ true
+p1b-proper : (own : ℕ) (ballot provenBallot : Ballot) (mask : ℕ) (h k : List ℕ) → length h ≤ capacity → length k ≤ capacity
+    → proper capacity (message 3 own (record { 0 = 0 }) ballot provenBallot mask h k) ≡ true
 unfolding proper isKind uses unusedZero zeroUnless
-p1b-proper own ballot proven mask h k p q = rw (le-leb (length h) limit p, le-leb (length k) limit q)
+p1b-proper own ballot provenBallot mask h k p q = rw (le-leb (length h) capacity p, le-leb (length k) capacity q)
 
-verify-proper : (own : ℕ) (view : View) (ballot : Ballot) (h : List ℕ) → length h ≤ limit
-    → proper (message 6 own view ballot (record { 0 = 0 }) 0 h []) ≡ true
+verify-proper : (own : ℕ) (view : View) (ballot : Ballot) (h : List ℕ) → length h ≤ capacity
+    → proper capacity (message 6 own view ballot (record { 0 = 0 }) 0 h []) ≡ true
 unfolding proper isKind uses unusedZero zeroUnless
-verify-proper own view ballot h p = rw (le-leb (length h) limit p)
+verify-proper own view ballot h p = rw (le-leb (length h) capacity p)
 
-p2b-proper : (own : ℕ) (ballot : Ballot) (mask : ℕ) (h : List ℕ) → length h ≤ limit
-    → proper (message 7 own (record { 0 = 0 }) ballot (record { 0 = 0 }) mask h []) ≡ true
+p2b-proper : (own : ℕ) (ballot : Ballot) (mask : ℕ) (h : List ℕ) → length h ≤ capacity
+    → proper capacity (message 7 own (record { 0 = 0 }) ballot (record { 0 = 0 }) mask h []) ≡ true
 unfolding proper isKind uses unusedZero zeroUnless
-p2b-proper own ballot mask h p = rw (le-leb (length h) limit p)
+p2b-proper own ballot mask h p = rw (le-leb (length h) capacity p)
 
 -- ---- what CONFIG lets pass
 
@@ -225,7 +229,7 @@ module _ {r : Roster} {own room : ℕ} {v : ViewRecord} {s : State} {line : List
   -- a VERIFY
   on-verify : Accepts r own room v s line → received line .sender < r .n → Checked s (carried (received line))
       → P (accepted VERIFY r own v s (received line))
-  unfolding store
+  unfolding store verifying
   on-verify a p c =
       go (extends (carried (received line)) (entryOf s (received line))) (proves r s (verifiedBy s (received line)) (carried (received line))) refl refl
     where
@@ -239,7 +243,7 @@ module _ {r : Roster} {own room : ℕ} {v : ViewRecord} {s : State} {line : List
   on-kind : Accepts r own room v s line → (k : Kind)
       → NoneHolds (frameRules k r (v .view) (marksOf s) (heldOf s) (provenOf s) (entryOf s (received line)) (received line))
       → P (accepted k r own v s (received line))
-  unfolding sign testOf
+  unfolding opening sign lengthened overflows testOf
   on-kind a P1A n = on-classic a
   on-kind a FAST n = on-fast a
   on-kind a PROPOSE n =
@@ -274,7 +278,7 @@ pub record Fits (own : ℕ) (v : ViewRecord) (s : State) : Type 0 where
   pub ballot-fits : s .ballot .0 < 2 ^ 32
   pub held-fits : EachFits (s .held .words)
   pub proven-fits : EachFits (s .proven .words)
-  pub certified-fits : s .certified .0 < 2 ^ 32
+  pub proven-ballot-fits : s .«proven_ballot» .0 < 2 ^ 32
   pub certificate-fits : s .certificate < 2 ^ 16
 
 -- a certificate is of at most 16 sites
@@ -297,8 +301,8 @@ module _ {own : ℕ} {v : ViewRecord} {s : State} (f : Fits own v s) where
   p1b-writable n ballot c l =
       let p = valid-stored-length limit (s .proven) (c .proven-valid) in
       let q = valid-stored-length limit (s .held) (c .held-valid) in
-      message-writable 3 own (record { 0 = 0 }) ballot (s .certified) (s .certificate) p q proven-each held-each (lit< tt) (f .own-fits) (lit< tt) l
-      (f .certified-fits) (f .certificate-fits) (p1b-proper own ballot (s .certified) (s .certificate) (provenOf s) (heldOf s) p q)
+      message-writable 3 own (record { 0 = 0 }) ballot (s .«proven_ballot») (s .certificate) p q proven-each held-each (lit< tt) (f .own-fits) (lit< tt) l
+      (f .proven-ballot-fits) (f .certificate-fits) (p1b-proper own ballot (s .«proven_ballot») (s .certificate) (provenOf s) (heldOf s) p q)
 
   verify-writable : (h : List ℕ) → Checked s h → writable (verify own v s h) ≡ true
   verify-writable h c =
@@ -394,7 +398,7 @@ fresh-fits own v p q =
       ballot-fits = lit< tt;
       held-fits = each-padded limit none;
       proven-fits = each-padded limit none;
-      certified-fits = lit< tt;
+      proven-ballot-fits = lit< tt;
       certificate-fits = lit< tt;
     }
 
@@ -409,7 +413,7 @@ keeps-fits r own room v s line f =
       ballot-fits = read-ballot-fits limit line taken (a .framed);
       held-fits = f .held-fits;
       proven-fits = f .proven-fits;
-      certified-fits = f .certified-fits;
+      proven-ballot-fits = f .proven-ballot-fits;
       certificate-fits = f .certificate-fits;
     } in
     replies (λ o. Fits own v (o .state)) (λ _. f) (opened 0) (opened 1)
@@ -420,7 +424,7 @@ keeps-fits r own room v s line f =
       ballot-fits = f .ballot-fits;
       held-fits = each-padded limit (k .words (held-each f));
       proven-fits = f .proven-fits;
-      certified-fits = f .certified-fits;
+      proven-ballot-fits = f .proven-ballot-fits;
       certificate-fits = f .certificate-fits;
     })
     (λ a p k.
@@ -430,7 +434,7 @@ keeps-fits r own room v s line f =
       ballot-fits = f .ballot-fits;
       held-fits = f .held-fits;
       proven-fits = each-padded limit (k .words (held-each f));
-      certified-fits = f .ballot-fits;
+      proven-ballot-fits = f .ballot-fits;
       certificate-fits = certificate-lt r own room v s (verifiedBy s x) (carried x) (a .configured);
     })
     (λ a p k.
@@ -440,7 +444,7 @@ keeps-fits r own room v s line f =
       ballot-fits = f .ballot-fits;
       held-fits = f .held-fits;
       proven-fits = f .proven-fits;
-      certified-fits = f .certified-fits;
+      proven-ballot-fits = f .proven-ballot-fits;
       certificate-fits = f .certificate-fits;
     })
     f (stepped r own room v s line)

@@ -108,16 +108,16 @@ kind-of = (refl, refl, refl)
 -- ---- which frames FORM allows
 
 -- P2A, P1A and FAST leave 0 what their kind doesn't use
-p2a-proper : (own : ℕ) (view : View) (ballot : Ballot) (h : List ℕ) → length h ≤ limit
-    → proper (message 5 own view ballot (record { 0 = 0 }) 0 h []) ≡ true
+p2a-proper : (own : ℕ) (view : View) (ballot : Ballot) (h : List ℕ) → length h ≤ capacity
+    → proper capacity (message 5 own view ballot (record { 0 = 0 }) 0 h []) ≡ true
 unfolding proper isKind uses unusedZero zeroUnless
-p2a-proper own view ballot h p = rw (le-leb (length h) limit p)
+p2a-proper own view ballot h p = rw (le-leb (length h) capacity p)
 
-p1a-proper : (own : ℕ) (view : View) (ballot : Ballot) → proper (message 1 own view ballot (record { 0 = 0 }) 0 [] []) ≡ true
+p1a-proper : (own : ℕ) (view : View) (ballot : Ballot) → proper capacity (message 1 own view ballot (record { 0 = 0 }) 0 [] []) ≡ true
 unfolding proper isKind uses unusedZero zeroUnless
 p1a-proper own view ballot = refl
 
-fast-proper : (own : ℕ) (view : View) (ballot : Ballot) → proper (message 2 own view ballot (record { 0 = 0 }) 0 [] []) ≡ true
+fast-proper : (own : ℕ) (view : View) (ballot : Ballot) → proper capacity (message 2 own view ballot (record { 0 = 0 }) 0 [] []) ≡ true
 unfolding proper isKind uses unusedZero zeroUnless
 fast-proper own view ballot = refl
 

@@ -107,14 +107,14 @@ fn change(s: Site, line: &[u8], out: &mut [u8]) -> Site {
 // The acceptor's state of these parts.
 fn accepting(marks: acceptor::Marks, held: History, proven: History, verified: Table) -> State {
     let ballot = marks.ballot;
-    let certified = marks.certified;
+    let proven_ballot = marks.proven_ballot;
     State {
         ballot,
         fast: marks.fast,
         signed: marks.signed,
         held,
         proven,
-        certified,
+        proven_ballot,
         certificate: marks.certificate,
         verified,
     }
@@ -123,12 +123,12 @@ fn accepting(marks: acceptor::Marks, held: History, proven: History, verified: T
 // What an acceptor's state keeps beside its histories.
 fn marks_in(s: State) -> acceptor::Marks {
     let ballot = s.ballot;
-    let certified = s.certified;
+    let proven_ballot = s.proven_ballot;
     acceptor::Marks {
         ballot,
         fast: s.fast,
         signed: s.signed,
-        certified,
+        proven_ballot,
         certificate: s.certificate,
     }
 }
@@ -147,12 +147,12 @@ fn step_acceptor(s: Site, line: &[u8], out: &mut [u8]) -> acceptor::Outcome {
         s.own,
         s.views,
         marks_in(before),
-        &mut n,
         &mut held,
-        &mut m,
+        &mut n,
         &mut proven,
-        &mut counts,
+        &mut m,
         &mut words,
+        &mut counts,
         line,
         out,
     );
@@ -342,7 +342,7 @@ fn hear_leader(s: Site, line: &[u8], out: &mut [u8]) -> Site {
 
 // The site after its host opened the ballot of a P1A or a FAST; a line that is neither counts as ballot 0.
 fn open_ballot(s: Site, line: &[u8], out: &mut [u8]) -> Site {
-    let reading = frame::read(line, OPENING);
+    let reading = frame::read(words::LIMIT, line, OPENING);
     let m = reading.frame;
     let ballot = m.ballot;
     let fast: u8 = if m.kind == FAST { 1 } else { 0 };

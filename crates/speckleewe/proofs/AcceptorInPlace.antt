@@ -91,7 +91,7 @@ siteTys = tcons (layout (shape Q.the-type)) (tcons (layout (shape T.the-type)) t
 abbrev stateVals : State → Vals
 stateVals s =
     vcons (LL.val B.the-type B′.the-laws (s .ballot)) (vcons (vint w8 (s .fast)) (vcons (vint w8 (s .signed))
-    (vcons (LL.val S.the-type S′.the-laws (s .held)) (vcons (LL.val S.the-type S′.the-laws (s .proven)) (vcons (LL.val B.the-type B′.the-laws (s .certified))
+    (vcons (LL.val S.the-type S′.the-laws (s .held)) (vcons (LL.val S.the-type S′.the-laws (s .proven)) (vcons (LL.val B.the-type B′.the-laws (s .«proven_ballot»))
     (vcons (vint w16 (s .certificate)) (vcons (LL.val E.the-type E′.the-laws (s .verified)) vnil)))))))
 
 abbrev siteVals : Site → Vals
@@ -228,7 +228,7 @@ module _ (P₃ : Argument) (Rel : (κ : Lft) → Site → Roster → ℕ → P�
           assigns ! (of-opd ! (load ! (from ! (hop ! (look ! 47 refl) (fld ! refl (fld ! refl (stop !))))) (look-in ! 0 (sub ! 2 refl (sub ! 1 refl (whole !)))))) (from ! (stop !))
           (init ! 29 refl (uint-lawful 𝓤 H A W w8 .typed (s .signed) _ (of .1 .1 .0) .0)) $
           assigns ! (of-opd ! (load ! (from ! (hop ! (look ! 47 refl) (fld ! refl (fld ! refl (stop !))))) (look-in ! 0 (sub ! 5 refl (sub ! 1 refl (whole !)))))) (from ! (stop !))
-          (init ! 27 refl (LL.lawful B.the-type B′.the-laws 𝓤 H A W .typed (s .certified) _ (of .1 .1 .1 .1 .1 .0) .0)) $
+          (init ! 27 refl (LL.lawful B.the-type B′.the-laws 𝓤 H A W .typed (s .«proven_ballot») _ (of .1 .1 .1 .1 .1 .0) .0)) $
           assigns ! (of-opd ! (load ! (from ! (hop ! (look ! 47 refl) (fld ! refl (fld ! refl (stop !))))) (look-in ! 0 (sub ! 6 refl (sub ! 1 refl (whole !)))))) (from ! (stop !))
           (init ! 25 refl (uint-lawful 𝓤 H A W w16 .typed (s .certificate) _ (of .1 .1 .1 .1 .1 .1 .0) .0)) $
           assigns ! (agg ! (and-then ! (loaded ! 33 refl) (and-then ! (loaded ! 31 refl) (and-then ! (loaded ! 29 refl) (and-then ! (loaded ! 27 refl) (and-then ! (loaded ! 25 refl) (no-more !))))))) (from ! (stop !))
@@ -299,7 +299,7 @@ module _ (P₃ : Argument) (Rel : (κ : Lft) → Site → Roster → ℕ → P�
           assigns ! (of-opd ! (load ! (from ! (fld ! refl (fld ! refl (stop !)))) (look-in ! 35 (sub ! 2 refl (sub ! 2 refl (whole !))))))
           (from ! (hop ! (look ! 47 refl) (fld ! refl (fld ! refl (stop !))))) (store-in ! 0 (sub ! 2 refl (sub ! 1 refl (whole !))) (uint-lawful 𝓤 H A W w8 .typed (d .marks .signed) _ (remarked .1 .1 .0) .0)) $
           assigns ! (of-opd ! (load ! (from ! (fld ! refl (fld ! refl (stop !)))) (look-in ! 35 (sub ! 3 refl (sub ! 2 refl (whole !))))))
-          (from ! (hop ! (look ! 47 refl) (fld ! refl (fld ! refl (stop !))))) (store-in ! 0 (sub ! 5 refl (sub ! 1 refl (whole !))) (LL.lawful B.the-type B′.the-laws 𝓤 H A W .typed (d .marks .certified) _ (remarked .1 .1 .1 .0) .0)) $
+          (from ! (hop ! (look ! 47 refl) (fld ! refl (fld ! refl (stop !))))) (store-in ! 0 (sub ! 5 refl (sub ! 1 refl (whole !))) (LL.lawful B.the-type B′.the-laws 𝓤 H A W .typed (d .marks .«proven_ballot») _ (remarked .1 .1 .1 .0) .0)) $
           assigns ! (of-opd ! (load ! (from ! (fld ! refl (fld ! refl (stop !)))) (look-in ! 35 (sub ! 4 refl (sub ! 2 refl (whole !))))))
           (from ! (hop ! (look ! 47 refl) (fld ! refl (fld ! refl (stop !))))) (store-in ! 0 (sub ! 6 refl (sub ! 1 refl (whole !))) (uint-lawful 𝓤 H A W w16 .typed (d .marks .certificate) _ (remarked .1 .1 .1 .1 .0) .0)) $
           assigns ! (agg ! (and-then ! (load ! (from ! (fld ! refl (stop !))) (look-in ! 35 (sub ! 0 refl (whole !))))

@@ -45,7 +45,7 @@ use Rattle.learner.specs.Parts.{stateOf}
 use Rattle.learner.specs.declared.State.{State}
 use Rattle.learner.proofs.State as T
 use Rattle.learner.proofs.State.Laws as T′
-use Rattle.speckleewe.specs.Outcomes.{learns}
+use Rattle.speckleewe.specs.Outcomes.{learnerCall}
 use Rattle.speckleewe.specs.declared.LearnerReply.{LearnerReply}
 use Rattle.speckleewe.proofs.LearnerReply as Y
 use Rattle.speckleewe.proofs.LearnerReply.Laws as Y′
@@ -73,7 +73,7 @@ step-ended =
 
 abbrev step-says : (κs : Lfts 2) → Args (step-ended .signature) κs → LearnerReply → AtExit step-ended κs → Type 0
 step-says κs a d e =
-    learns (stateOf (now (a .1 .0)) (now (a .0)) (now (a .1 .1 .1 .0)) (now (a .1 .1 .0))) (a .1 .1 .1 .1 .0) (now (a .1 .1 .1 .1 .1 .0)) d
+    learnerCall (stateOf (now (a .1 .0)) (now (a .0)) (now (a .1 .1 .1 .0)) (now (a .1 .1 .0))) (a .1 .1 .1 .1 .0) (now (a .1 .1 .1 .1 .1 .0)) d
     (stateOf (now (e .1 .0)) (now (e .0)) (now (e .1 .1 .1 .0)) (now (e .1 .1 .0)))
 
 abbrev Step : {M : Type 1} (𝓤 : URA M) (H : Heap 𝓤) (A : Atoms 𝓤) → Contract 𝓤
@@ -84,7 +84,7 @@ abbrev ended : Ended
 ended = keeping 2 (record-slot R ∷ entry-slot roster ∷ entry-slot bytes ∷ []) (plain (λ κs. Y.the-row))
 
 abbrev clauses : {M : Type 1} (𝓤 : URA M) → Clauses 𝓤 ended
-clauses = stating ended (λ κs a r e. learns (now (a .0)) (a .1 .0) (now (a .1 .1 .0)) r (now (e .0)))
+clauses = stating ended (λ κs a r e. learnerCall (now (a .0)) (a .1 .0) (now (a .1 .1 .0)) r (now (e .0)))
 
 -- the entry's body: the parts are lent on and the step called
 abbrev part : ℕ → ℕ → Rv
@@ -135,7 +135,7 @@ module _ {M : Type 1} (𝓤 : URA M) (H : Heap 𝓤) (A : Atoms 𝓤) (W : Given
     tt,
   )
 
-  exits : (d : LearnerReply) (t : State) → learns h x₁ (now x₂) d t → Is Y.the-row d (LL.vals Y.the-type Y′.the-laws d)
+  exits : (d : LearnerReply) (t : State) → learnerCall h x₁ (now x₂) d t → Is Y.the-row d (LL.vals Y.the-type Y′.the-laws d)
       → ent 𝓤 (⋆ 𝓤 H A (‵ (fobs γ (row R .coded .code t)) ∷ ‵ (fbor κᵣ (Borrowed (mem (row R)) b o γ)) ∷ ‵ (flft κᵣ qᵣ) ∷
       (‵ (flft κ q) ⊛ ‵ ftrue) ∷ [])) (Post (LL.val Y.the-type Y′.the-laws d))
   exits d t e is =
@@ -184,8 +184,8 @@ module _ {M : Type 1} (𝓤 : URA M) (H : Heap 𝓤) (A : Atoms 𝓤) (W : Given
         raw (ensured 𝓤 H A step-ended (stating step-ended step-says 𝓤) (ν ∷ [], (κ, tt)) (to-step ν γ₁ γ₂ γ₃ γ₄ .0 .3) tt d)))) (id⊢ 𝓤 _) $ await ! tt $ pick ! (λ d.
         split ! $ move ! (1 ∷ []) $ use1 W (some (λ (zs : List ℕ × (List ℕ × (ℕ × (List ℕ × (Unit {0} × (Unit {0} × Unit {0})))))).
         ‵ (lasts step-ended (ν ∷ [], (κ, tt)) (to-step ν γ₁ γ₂ γ₃ γ₄ .0 .3) zs) ⊛
-        raw (fact 𝓤 (learns h x₁ (now x₂) d (stateOf (zs .1 .0) (zs .0) (zs .1 .1 .1 .0) (zs .1 .1 .0)))))) (id⊢ 𝓤 _) $ pick ! (λ zs.
-        split ! $ move ! (1 ∷ []) $ heard ! (learns h x₁ (now x₂) d (stateOf (zs .1 .0) (zs .0) (zs .1 .1 .1 .0) (zs .1 .1 .0))) (λ e.
+        raw (fact 𝓤 (learnerCall h x₁ (now x₂) d (stateOf (zs .1 .0) (zs .0) (zs .1 .1 .1 .0) (zs .1 .1 .0)))))) (id⊢ 𝓤 _) $ pick ! (λ zs.
+        split ! $ move ! (1 ∷ []) $ heard ! (learnerCall h x₁ (now x₂) d (stateOf (zs .1 .0) (zs .0) (zs .1 .1 .1 .0) (zs .1 .1 .0))) (λ e.
         fsplit ! $ move ! (1 ∷ []) $ fsplit ! $ move ! (1 ∷ []) $ fsplit ! $ move ! (1 ∷ []) $ fsplit ! $ move ! (1 ∷ []) $ drop ! $
         -- [the last values, from the fourth part's; the tokens and the answer; the lenders' parts, from the fourth; the rests; true; …]
         move ! (4 ∷ []) $ split ! $ split ! $ move ! (2 ∷ []) $ peeks ! Y.the-row (Is Y.the-row) (shows 𝓤 H A Y.the-row) d (w ∷ []) (λ are.

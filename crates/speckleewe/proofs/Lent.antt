@@ -10,7 +10,7 @@
 --
 -- How an entry over a copied record is added:
 -- 1. In `specs/`: a relation of the record before, the arguments, the buffer before, the step's outcome and the buffer after; and the outcome that
---    a reply and the record after make. Examples: `changesView` and `viewsLeft`.
+--    a reply and the record after make. Examples: `viewChangeCall` and `viewsLeft`.
 -- 2. The step's outcome, a private struct: the answer (`u8`), the length sent (`usize`) and the record, in this order.
 -- 3. The step by value, a private function with no `requires`: it takes the record, the arguments and the buffer, and ensures the relation. An
 --    argument is a number, a struct of numbers, or a `&'a [u8]`, which has the buffer's lifetime `'a`. Several numbers make one struct.

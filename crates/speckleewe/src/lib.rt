@@ -129,7 +129,7 @@ fn view_change_by_value<'a>(
     line: &'a [u8],
     out: &'a mut [u8],
 ) -> ViewChangeOutcome
-    ensures { λ o. ⌜ changesView views roster own (now (line .entry)) (now (out .entry)) o (now (out .exit)) ⌝ }
+    ensures { λ o. ⌜ viewChangeCall views roster own (now (line .entry)) (now (out .entry)) o (now (out .exit)) ⌝ }
 {
     let o = viewchange::step(roster, own, views, line, out);
     numbered(o)
@@ -163,7 +163,7 @@ fn suspicion_by_value(
     view: View,
     out: &mut [u8],
 ) -> ViewChangeOutcome
-    ensures { λ o. ⌜ suspects views roster own view (now (out .entry)) o (now (out .exit)) ⌝ }
+    ensures { λ o. ⌜ suspicionCall views roster own view (now (out .entry)) o (now (out .exit)) ⌝ }
 {
     let o = viewchange::suspicion(roster, own, views, view, out);
     numbered(o)

@@ -9,7 +9,7 @@ use Rattle.roster.proofs.View.Laws as view′
 use Rattle.site.proofs.ViewRecord as views
 use Rattle.site.proofs.ViewRecord.Laws as views′
 use Rattle.speckleewe.specs.declared.ViewChangeOutcome.{ViewChangeOutcome}
-use Rattle.speckleewe.specs.Outcomes.{viewsLeft, suspects}
+use Rattle.speckleewe.specs.Outcomes.{viewsLeft, suspicionCall}
 use Rattle.speckleewe.proofs.ViewChangeOutcome as outcome
 use Rattle.speckleewe.proofs.Arguments.{struct, roster, own}
 use Rattle.speckleewe.proofs.WithBuffer.{meets}
@@ -28,7 +28,7 @@ speckleewe-suspicion-spec 𝓤 H 𝓜 𝓖 𝓡 =
     (tables 𝓤 H 𝓜 𝓡 code.env .C) (tables 𝓤 H 𝓜 𝓡 code.env .Λ) key.name code.function (code.unfolded 𝓤 H 𝓜 𝓡)
     (meets views.the-type views′.the-laws views′.lowers views′.the-plain
     (outcome.struct .name) ViewChangeOutcome (outcome.struct .as-values) (outcome.the-type .to-one)
-    roster own (struct view.the-type view′.the-laws) (λ κ. suspects) viewsLeft (λ d. refl)
+    roster own (struct view.the-type view′.the-laws) (λ κ. suspicionCall) viewsLeft (λ d. refl)
     𝓤 H (𝓖 .A) (givenOf 𝓤 H 𝓜 𝓖) step.name (tablesOf 𝓤 H 𝓜 (tables 𝓤 H 𝓜 𝓡 code.env))
     (cited 𝓤 H (tripleOf 𝓤 H (𝓖 .A) by-value.signature (by-value.spec 𝓤 H (𝓖 .A) (𝓜 .mem) (𝓡 .run)))
     𝓜 𝓡 code.env step.name step.routine code.calls-speckleewe·suspicion-by-value (step-met.met 𝓤 H 𝓜 𝓖 𝓡)))

@@ -8,7 +8,7 @@ use denote.Triple.Table.{entered, cited}
 use Rattle.site.proofs.ViewRecord as views
 use Rattle.site.proofs.ViewRecord.Laws as views′
 use Rattle.speckleewe.specs.declared.ViewChangeOutcome.{ViewChangeOutcome}
-use Rattle.speckleewe.specs.Outcomes.{viewsLeft, changesView}
+use Rattle.speckleewe.specs.Outcomes.{viewsLeft, viewChangeCall}
 use Rattle.speckleewe.proofs.ViewChangeOutcome as outcome
 use Rattle.speckleewe.proofs.Arguments.{roster, own, bytes}
 use Rattle.speckleewe.proofs.WithBuffer.{meets}
@@ -27,7 +27,7 @@ speckleewe-view-change-spec 𝓤 H 𝓜 𝓖 𝓡 =
     (tables 𝓤 H 𝓜 𝓡 code.env .C) (tables 𝓤 H 𝓜 𝓡 code.env .Λ) key.name code.function (code.unfolded 𝓤 H 𝓜 𝓡)
     (meets views.the-type views′.the-laws views′.lowers views′.the-plain
     (outcome.struct .name) ViewChangeOutcome (outcome.struct .as-values) (outcome.the-type .to-one)
-    roster own bytes (λ κ v r own line. changesView v r own (now line)) viewsLeft (λ d. refl)
+    roster own bytes (λ κ v r own line. viewChangeCall v r own (now line)) viewsLeft (λ d. refl)
     𝓤 H (𝓖 .A) (givenOf 𝓤 H 𝓜 𝓖) step.name (tablesOf 𝓤 H 𝓜 (tables 𝓤 H 𝓜 𝓡 code.env))
     (cited 𝓤 H (tripleOf 𝓤 H (𝓖 .A) by-value.signature (by-value.spec 𝓤 H (𝓖 .A) (𝓜 .mem) (𝓡 .run)))
     𝓜 𝓡 code.env step.name step.routine code.calls-speckleewe·view-change-by-value (step-met.met 𝓤 H 𝓜 𝓖 𝓡)))
