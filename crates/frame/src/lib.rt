@@ -346,7 +346,7 @@ fn read_body(values: &[u8; 256], line: &[u8], n: u8, m: u8, words: &mut [u64]) -
     read_words(values, &line[HEADER..end], &mut words[..count])
 }
 
-// A limit, or the most commands that a list has room for where the limit is more.
+// A limit, or the capacity of a list where the limit is more.
 fn within(limit: u8) -> u8
     ensures { λ r. ⌜ r ≡ min limit sizes.capacity ⌝ }
 {
@@ -354,7 +354,7 @@ fn within(limit: u8) -> u8
 }
 
 // Reads a line of one of the kinds (kind k is bit k), with lists of at most `limit` commands, into a heading and lent words: the n commands, then
-// the m, then zeros. No list has more than 32 commands, whatever the limit.
+// the m, then zeros. A limit over the capacity counts as the capacity.
 pub fn read_into(limit: u8, line: &[u8], kinds: u16, words: &mut [u64; CAPACITY]) -> Heading
     ensures { λ h. ⌜ format.readingWith h (now (words .exit)) ≡ format.readingOf (min limit sizes.capacity) (now (line .entry)) kinds ⌝ }
 {
@@ -389,7 +389,8 @@ pub fn read_bare(line: &[u8], kinds: u16) -> Heading
     h
 }
 
-// The frame of a line, if these characters are a line, of one of the kinds (kind k is bit k), with lists of at most `limit` commands.
+// The frame of a line, if these characters are a line, of one of the kinds (kind k is bit k), with lists of at most `limit` commands; a limit over
+// the capacity counts as the capacity.
 pub fn read(limit: u8, line: &[u8], kinds: u16) -> Reading
     ensures { λ r. ⌜ r ≡ format.readingOf (min limit sizes.capacity) (now (line .entry)) kinds ⌝ }
 {
