@@ -1,6 +1,6 @@
 -- `leader::open_in_place` meets its contract: a refused opening changes nothing; an accepted one hands over the frame that opens the ballot and clears the tables.
 -- Assumes nothing.
-use mathlib.Core.Path.{refl, ap}
+use mathlib.Core.Path.{ap}
 use mathlib.Core.Bool.{not}
 use Rattle.refusal.specs.AnswerLaws.{rule, no-rule}
 use Rattle.leader.specs.Parts.{stateOf}

@@ -1,6 +1,5 @@
 -- `leader::perform` meets its contract: by the kind of the frame, a report is collected, the commands are appended, or the view is taken.
 -- Assumes nothing.
-use mathlib.Core.Path.{refl}
 use borrow.Author.Needs.{needs}
 use Rattle.leader.proofs.perform.Statement.{statement}
 use Rattle.leader.proofs.perform.Tie as tie
