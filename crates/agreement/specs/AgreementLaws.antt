@@ -17,7 +17,7 @@ use Rattle.history.specs.ExtensionLaws.{extends-refl, extends-nil, extends-tran
 use Rattle.history.specs.CoherenceLaws.{three-compatible, no-more, and, no-other, other, no-pair, pairs}
 use Rattle.history.specs.OrderLaws.{same-order}
 use Rattle.history.specs.ValidLaws.{valid-parts}
-use Rattle.history.specs.Words.{commands}
+use Rattle.history.specs.Words.{limit, commands}
 use Rattle.history.specs.WordsLaws.{valid-stored-history}
 use Rattle.merge.specs.CommonLaws.{none, also, CommonHistory, common-history, common-of-histories}
 use Rattle.table.specs.Table.{sites, rowOf}
