@@ -113,15 +113,15 @@ unfolding
     sentLines isIn namesHonest authentic allAuthentic premises
     field proposer kind serial slot argument validArgument validCommand allValid wrong allBy sameRequest kindsTable kindsConflict conflict
     present repeated apart free least without ordered canonical equal isCanonical validHistory improper comesOff extends padded validStored
-    appended merge answered merged appending.holds appending.reuses appending.nothingNew
+    appended merge answered merged appending.holds appending.reuses appending.nothingNew appending.overflows
     validRoster quorum weakCertificate leaderOf bit reaches beyond withSite ones onesIn countTo allTo maskTo
     inRange row storedAt emptyTable validRow validTable
     judged
     digit isDigit valueOf allDigits byteOf numberFrom digitsOf spell numbers allFit total
     uses isKind zeroUnless unusedZero lineOf proper allZero fits writable framed frameOf isLine readingOf malformed hasRoom writtenLength written
     seated validRecord
-    acceptor.config acceptor.notLeader acceptor.sameView acceptor.sameBallot acceptor.behindOf acceptor.entryOf acceptor.sign
-    acceptor.certificateOf acceptor.proves acceptor.store acceptor.step
+    acceptor.config acceptor.notLeader acceptor.opening acceptor.sign acceptor.lengthened acceptor.contradicts
+    acceptor.certificateOf acceptor.convinces acceptor.store acceptor.verifying acceptor.step
     viewchange.config viewchange.suspected viewchange.sets viewchange.suspicion viewchange.step
 premises-hold = premises-tested world 2 others refl
 
