@@ -107,7 +107,7 @@ pub record Reports (r : Roster) (own room : ℕ) (s : State) (line : List ℕ) :
   pub kind : kindOf (received line .kind) ≡ P1B
   pub from-site : leb (r .n) (received line .sender) ≡ false
   pub timely : not (awaited r (marksOf s) (received line .ballot) (received line .sender)) ≡ false
-  pub founded : unfounded r (received line .n) (received line .proven) (received line .mask) ≡ false
+  pub founded : unfounded r (received line .n) (received line .«proven_ballot») (received line .mask) ≡ false
   pub right : (wrong (first (received line)) || wrong (second (received line))) ≡ false
   pub proper : (disordered (first (received line)) || disordered (second (received line))) ≡ false
   pub outcome : step r own room s line ≡ conclude r own (reporting s (received line))
