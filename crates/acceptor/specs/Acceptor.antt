@@ -19,7 +19,7 @@ use Rattle.table.specs.declared.Table.{Table}
 use Rattle.table.specs.Table.{rowOf, storedAt, emptyTable, validTable}
 use Rattle.refusal.specs.declared.Refusal.the-variants.{Config, Form, Sender, Stale, Behind, Reused, Contradiction, Nothing, Full}
 use Rattle.refusal.specs.Rules.{Rule, _gives_, judged}
-use Rattle.content.specs.Content.{historyRules, requestRules}
+use Rattle.content.specs.Content.{historyRules, requestRules, contradicts}
 use Rattle.frame.specs.declared.Frame.{Frame}
 use Rattle.frame.specs.Layout.{first}
 use Rattle.frame.specs.Format.{readingOf, malformed}
@@ -187,10 +187,6 @@ abbrev pub verifyHeading : Roster → View → Marks → Frame → List Rule
 verifyHeading r view k m =
     leb (r .n) (m .sender) gives Sender ∷
     not (sameView (m .view) view && sameBallot (m .ballot) (k .ballot)) gives Stale ∷ []
-
--- CONTRADICTION: "sender's stored history and this one: neither extends the other"
-unfoldable pub contradicts : List ℕ → List ℕ → Bool
-contradicts entry h = not (extends h entry) && not (extends entry h)
 
 abbrev pub verifyRules : Roster → View → Marks → List ℕ → Frame → List ℕ → List Rule
 verifyRules r view k entry m h = verifyHeading r view k m ++ (historyRules h ++ (contradicts entry h gives Contradiction ∷ []))

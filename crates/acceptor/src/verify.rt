@@ -39,18 +39,6 @@ fn check_heading(r: Roster, view: View, marks: Marks, head: Heading) -> Answer
     )
 }
 
-// Whether neither of a site's entry and h extends the other.
-fn contradicts<'a>(entry: &'a [u64], h: &'a [u64]) -> bool
-    requires { ⌜ (length (now entry) ≤ 32) × (length (now h) ≤ 32) ⌝ }
-    ensures { λ b. ⌜ b ≡ spec.contradicts (now (entry .entry)) (now (h .entry)) ⌝ }
-{
-    let newer = history::extends(h, entry);
-    if newer {
-        return false;
-    }
-    !history::extends(entry, h)
-}
-
 // The answer to a VERIFY: the heading, then the commands, then the sender's entry.
 pub(crate) fn check<'a>(
     r: Roster,
@@ -73,7 +61,7 @@ pub(crate) fn check<'a>(
     if ends {
         return commands;
     }
-    let clash = contradicts(entry, h);
+    let clash = content::contradicts(entry, h);
     given(clash, Refusal::Contradiction, Answer::Accepted)
 }
 

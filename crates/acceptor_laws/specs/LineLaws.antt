@@ -18,8 +18,8 @@ use Rattle.roster.specs.RosterLaws.{valid-figures}
 use Rattle.roster.specs.Mask.{bit, beyond}
 use Rattle.roster.specs.MaskLaws.{bit-out, mask-lt, mask-inside, beyond-false}
 use Rattle.roster.specs.Sites.{allTo}
-use Rattle.roster.specs.SitesLaws.{all-each, lt-or-le}
-use Rattle.basics.specs.Bools.{and-left, and-right, or-left, beq-true}
+use Rattle.roster.specs.SitesLaws.{all-each}
+use Rattle.basics.specs.Bools.{lt-or-le, and-left, and-right, or-left, beq-true}
 use Rattle.command.specs.Command.{wrong}
 use Rattle.command.specs.CommandLaws.{right-commands}
 use Rattle.history.specs.History.{canonical, extends, validHistory, improper}

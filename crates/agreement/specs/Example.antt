@@ -8,7 +8,7 @@ use lib.Dec.{ltb}
 use lib.ListN.{replicate}
 use Rattle.roster.specs.declared.Roster.{Roster}
 use Rattle.roster.specs.Roster.{validRoster, quorum, weakCertificate, leaderOf}
-use Rattle.roster.specs.Mask.{bit, reaches, beyond, withSite}
+use Rattle.roster.specs.Mask.{unproven, bit, reaches, beyond, withSite}
 use Rattle.roster.specs.Sites.{countTo, allTo, maskTo}
 use Rattle.command.specs.Command.{validArgument, validCommand, allValid, wrong, allBy, field, proposer, kind, serial, slot, argument, sameRequest, kindsTable, kindsConflict, conflict}
 use Rattle.history.specs.History.{present, repeated, apart, free, least, without, ordered, canonical, equal, isCanonical, validHistory, improper, comesOff, extends}
@@ -17,6 +17,7 @@ use Rattle.merge.specs.Merge.{appended, merge}
 use Rattle.merge.specs.Merged.{answered, merged}
 use Rattle.merge.specs.Appending as appending
 use Rattle.table.specs.Table.{inRange, row, storedAt, emptyTable, validRow, validTable}
+use Rattle.content.specs.Content.{contradicts}
 use Rattle.refusal.specs.Rules.{judged}
 use Rattle.frame.specs.Hex.{digit, isDigit, valueOf, allDigits, byteOf, numberFrom, digitsOf, spell, numbers, allFit, total}
 use Rattle.frame.specs.Layout.{longest}
@@ -114,13 +115,13 @@ unfolding
     field proposer kind serial slot argument validArgument validCommand allValid wrong allBy sameRequest kindsTable kindsConflict conflict
     present repeated apart free least without ordered canonical equal isCanonical validHistory improper comesOff extends padded validStored
     appended merge answered merged appending.holds appending.reuses appending.nothingNew appending.overflows
-    validRoster quorum weakCertificate leaderOf bit reaches beyond withSite ones onesIn countTo allTo maskTo
+    validRoster quorum weakCertificate leaderOf bit reaches beyond unproven withSite ones onesIn countTo allTo maskTo
     inRange row storedAt emptyTable validRow validTable
     judged
     digit isDigit valueOf allDigits byteOf numberFrom digitsOf spell numbers allFit total
     uses isKind zeroUnless unusedZero lineOf proper allZero fits writable framed frameOf isLine readingOf malformed hasRoom writtenLength written
     seated validRecord
-    acceptor.config acceptor.notLeader acceptor.opening acceptor.sign acceptor.lengthened acceptor.contradicts
+    acceptor.config acceptor.notLeader acceptor.opening acceptor.sign acceptor.lengthened contradicts
     acceptor.certificateOf acceptor.convinces acceptor.store acceptor.verifying acceptor.step
     viewchange.config viewchange.suspected viewchange.sets viewchange.suspicion viewchange.step
 premises-hold = premises-tested world 2 others refl
@@ -132,12 +133,12 @@ unfolding
     field proposer kind serial slot argument validArgument validCommand allValid wrong sameRequest kindsTable kindsConflict conflict
     present repeated apart free least without ordered canonical equal isCanonical validHistory improper comesOff extends padded validStored
     appended merge answered merged
-    validRoster quorum bit reaches beyond ones onesIn countTo allTo
+    validRoster quorum bit reaches beyond unproven ones onesIn countTo allTo
     inRange row storedAt emptyTable validRow validTable
     judged
     digit isDigit valueOf allDigits byteOf numberFrom digitsOf spell numbers allFit total
     uses isKind zeroUnless unusedZero lineOf proper allZero fits writable framed frameOf isLine readingOf malformed
-    learner.config learner.contradicts learner.withVote learner.supporters learner.claimed learner.claims learner.further learner.merging
+    learner.config contradicts learner.withVote learner.supporters learner.claimed learner.claims learner.further learner.merging
     learner.step run
 learns = (refl, refl)
 

@@ -8,11 +8,11 @@ use borrow.Author.Tests.{leb-true, ltb-true, lt-ltb}
 use lib.Dec.{leb, ltb}
 use lib.ListN.{take}
 use Rattle.words.specs.Sizes.{limit}
-use Rattle.basics.specs.Bools.{and-left, and-right, or-either, implies}
+use Rattle.basics.specs.Bools.{lt-or-le, and-left, and-right, or-either, implies}
 use Rattle.roster.specs.declared.Roster.{Roster}
 use Rattle.roster.specs.Roster.{validRoster, quorum}
 use Rattle.roster.specs.Sites.{countTo, allTo}
-use Rattle.roster.specs.SitesLaws.{all-each, lt-or-le}
+use Rattle.roster.specs.SitesLaws.{all-each}
 use Rattle.history.specs.History.{equal}
 use Rattle.history.specs.CanonicalLaws.{equal-true}
 use Rattle.frame.specs.Format.{isLine, frameOf}

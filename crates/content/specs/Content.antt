@@ -1,11 +1,13 @@
--- The refusals that speak of the commands of a frame, COMMAND and HISTORY: one list of rules for each form in which frames carry commands.
-use mathlib.Core.Bool.{Bool, not, _||_}
+-- The refusals that speak of the commands of a frame. COMMAND and HISTORY: one list of rules for each form in which frames carry commands;
+-- CONTRADICTION: the test of VERIFY and P2B.
+use mathlib.Core.Bool.{Bool, not, _&&_, _||_}
 use mathlib.Core.List.{List, [], _∷_}
 use Prim.Native.Nat.{ℕ}
 use lib.Dec.{eqb}
 use lib.ListN.{length}
 use Rattle.command.specs.Command.{wrong, allBy}
-use Rattle.history.specs.History.{repeated, isCanonical, improper}
+use Rattle.history.specs.History.{repeated, isCanonical, improper, extends}
+use Rattle.history.specs.Words.{extendsWithin}
 use Rattle.refusal.specs.declared.Refusal.the-variants.{Command, History as Improper}
 use Rattle.refusal.specs.Rules.{Rule, _gives_}
 
@@ -24,3 +26,11 @@ disordered h = repeated h || not (isCanonical h)
 -- the two histories of a P1B: "Its held history follows rules 6 and 7 also."
 abbrev pub reportRules : List ℕ → List ℕ → List Rule
 reportRules g h = (wrong g || wrong h) gives Command ∷ (disordered g || disordered h) gives Improper ∷ []
+
+-- CONTRADICTION: "sender's stored history and this one: neither extends the other"
+unfoldable pub contradicts : List ℕ → List ℕ → Bool
+contradicts entry h = not (extends h entry) && not (extends entry h)
+
+-- the same, asked of lists of at most n commands only
+unfoldable pub contradictsWithin : ℕ → List ℕ → List ℕ → Bool
+contradictsWithin n entry h = not (extendsWithin n h entry) && not (extendsWithin n entry h)

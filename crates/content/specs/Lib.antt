@@ -1,2 +1,3 @@
--- What the contracts of `content` cite.
+-- What the contracts of `content` cite, and the laws of it.
 pub mod Content
+pub mod ContentLaws

@@ -1,4 +1,5 @@
-// The checks of the commands that a frame carries, COMMAND and HISTORY, which the roles share.
+// The checks of the commands that a frame carries, which the roles share: COMMAND and HISTORY, and CONTRADICTION. A refusal by COMMAND is answered
+// before the commands are compared with each other, which is the dear part.
 ghost use mathlib.Core.Path.{_≡_};
 ghost use Rattle.refusal.specs.Rules.{answer};
 ghost use Rattle.content.specs.Content as spec;
@@ -22,12 +23,11 @@ pub fn ordered(h: &[u64]) -> Answer
     ensures { λ a. ⌜ a ≡ answer (spec.historyRules (now (h .entry))) ⌝ }
 {
     let wrong = !command::all_valid(h);
+    if wrong {
+        return Answer::Refused(Refusal::Command);
+    }
     let improper = history::improper(h);
-    given(
-        wrong,
-        Refusal::Command,
-        given(improper, Refusal::History, Answer::Accepted),
-    )
+    given(improper, Refusal::History, Answer::Accepted)
 }
 
 // The answer to the commands that a proposer asks for, one or more in any order.
@@ -35,12 +35,11 @@ pub fn requested(by: u8, h: &[u64]) -> Answer
     ensures { λ a. ⌜ a ≡ answer (spec.requestRules by (now (h .entry))) ⌝ }
 {
     let wrong = !command::all_valid(h) | !command::all_by(by, h);
+    if wrong {
+        return Answer::Refused(Refusal::Command);
+    }
     let improper = history::repeated(h) | (h.len() == 0);
-    given(
-        wrong,
-        Refusal::Command,
-        given(improper, Refusal::History, Answer::Accepted),
-    )
+    given(improper, Refusal::History, Answer::Accepted)
 }
 
 // The answer to the two histories of a report, what is proven and what is held; either may be empty.
@@ -48,11 +47,20 @@ pub fn reported(proven: &[u64], held: &[u64]) -> Answer
     ensures { λ a. ⌜ a ≡ answer (spec.reportRules (now (proven .entry)) (now (held .entry))) ⌝ }
 {
     let wrong = !command::all_valid(proven) | !command::all_valid(held);
-    let answer = given(wrong, Refusal::Command, Answer::Accepted);
-    let stops = answer.refuses();
-    if stops {
-        return answer;
+    if wrong {
+        return Answer::Refused(Refusal::Command);
     }
     let improper = disordered(proven) | disordered(held);
     given(improper, Refusal::History, Answer::Accepted)
+}
+
+// Whether neither of a site's entry and h extends the other, of lists of at most 64 commands: a longer one extends nothing here.
+pub fn contradicts<'a>(entry: &'a [u64], h: &'a [u64]) -> bool
+    ensures { λ b. ⌜ b ≡ spec.contradictsWithin 64 (now (entry .entry)) (now (h .entry)) ⌝ }
+{
+    let newer = history::extends(h, entry);
+    if newer {
+        return false;
+    }
+    !history::extends(entry, h)
 }

@@ -43,7 +43,7 @@ use Rattle.leader.specs.declared.Marks.{Marks}
 use Rattle.leader.specs.declared.Outcome.{Outcome}
 use Rattle.leader.specs.Leader.{kindOf, taken, received, pendingOf, rules, openingRules, reporting, reportIn, proposed, p2a, conclude, accepted, step, inBallot, invitation, opening}
 use Rattle.leader.specs.Parts.{stateOf}
-use Rattle.leader.specs.code.Calls.{rulesOn, Done}
+use Rattle.leader.specs.Code.Calls.{rulesOn, Done}
 
 -- ---- the pending commands in place
 

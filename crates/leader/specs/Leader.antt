@@ -9,7 +9,7 @@ use Rattle.roster.specs.declared.View.{View}
 use Rattle.roster.specs.declared.Ballot.{Ballot}
 use Rattle.roster.specs.Roster.{quorum, leaderOf}
 use Rattle.roster.specs.Counts.{laterView, sameBallot, laterBallot, zeroBallot}
-use Rattle.roster.specs.Mask.{bit, reaches, beyond, withSite}
+use Rattle.roster.specs.Mask.{bit, reaches, beyond, unproven, withSite}
 use Rattle.command.specs.Command.{allValid}
 use Rattle.history.specs.declared.History.{History}
 use Rattle.history.specs.History.{repeated}
@@ -90,16 +90,12 @@ config r own room s =
 abbrev pub form : List ℕ → Bool
 form line = malformed limit line taken
 
--- PROOF: "a mask bit at N or above, or too few ones", of which N-f are needed
-unfoldable pub unproven : Roster → ℕ → Bool
-unproven r mask = beyond mask (r .n) || not (reaches mask (quorum r))
-
--- LEADER "needs view mod N its own number and a view above its own (else STALE)"
+-- LEADER "needs view mod N its own number and a view above its own (else STALE), and N-f ones"
 unfoldable pub leads : Roster → ℕ → Marks → View → Bool
 leads r own k view = eqb (leaderOf r view) own && laterView view (k .view)
 
 abbrev pub leaderRules : Roster → ℕ → Marks → Frame → List Rule
-leaderRules r own k m = leb (r .n) (m .sender) gives Sender ∷ not (leads r own k (m .view)) gives Stale ∷ unproven r (m .mask) gives Proof ∷ []
+leaderRules r own k m = leb (r .n) (m .sender) gives Sender ∷ not (leads r own k (m .view)) gives Stale ∷ unproven (m .mask) (r .n) (quorum r) gives Proof ∷ []
 
 -- SENDER: "PROPOSE instead: sender 0"
 abbrev pub proposeHeading : Frame → List Rule
@@ -121,7 +117,7 @@ awaited r k ballot site =
 
 -- "An empty proven history needs proven ballot 0 and mask 0; another needs N-f ones; else PROOF."
 unfoldable pub unfounded : Roster → ℕ → Ballot → ℕ → Bool
-unfounded r n provenBallot mask = cond (eqb n 0) (not (zeroBallot provenBallot && eqb mask 0)) (unproven r mask)
+unfounded r n provenBallot mask = cond (eqb n 0) (not (zeroBallot provenBallot && eqb mask 0)) (unproven mask (r .n) (quorum r))
 
 abbrev pub reportHeading : Roster → Marks → Frame → List Rule
 reportHeading r k m =

@@ -10,7 +10,7 @@ ghost use Rattle.refusal.specs.Rules.{answer};
 ghost use Rattle.frame.specs.Format.{frameWith, readingWith};
 ghost use Rattle.leader.specs.Leader as spec;
 ghost use Rattle.leader.specs.Parts as parts;
-ghost use Rattle.leader.specs.code.Calls as calls;
+ghost use Rattle.leader.specs.Code.Calls as calls;
 use frame::Heading;
 use history::History;
 use refusal::Answer;
@@ -100,13 +100,6 @@ fn config<'a>(
             & (!roster::beyond(marks.reported, r.n)
                 & (table::rows_valid(words::LIMIT, proven, proven_counts, r.n)
                     & table::rows_valid(words::LIMIT, held, held_counts, r.n)))))
-}
-
-// Whether a mask has a bit at N or above, or fewer than N-f ones.
-fn unproven(r: Roster, mask: u16) -> bool
-    ensures { λ b. ⌜ b ≡ spec.unproven r mask ⌝ }
-{
-    roster::beyond(mask, r.n) | !roster::reaches(mask, r.quorum())
 }
 
 // The answer to a frame, by its kind.

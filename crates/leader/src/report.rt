@@ -13,11 +13,10 @@ ghost use Rattle.frame.specs.Format.{frameWith};
 ghost use Rattle.site.specs.Reply.{Handed, sendsIf};
 ghost use Rattle.leader.specs.Leader as spec;
 ghost use Rattle.leader.specs.Parts as parts;
-ghost use Rattle.leader.specs.code.Calls as calls;
+ghost use Rattle.leader.specs.Code.Calls as calls;
 use super::Marks;
 use super::Settled;
 use super::silent;
-use super::unproven;
 use frame::Heading;
 use refusal::Answer;
 use refusal::Refusal;
@@ -47,7 +46,7 @@ fn unfounded(r: Roster, n: u8, proven_ballot: Ballot, mask: u16) -> bool
     if empty {
         return !(proven_ballot.is_zero() & (mask == 0));
     }
-    unproven(r, mask)
+    roster::unproven(mask, r.n, r.quorum())
 }
 
 // The answer to the heading of a P1B.

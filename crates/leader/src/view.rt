@@ -5,7 +5,6 @@ ghost use Rattle.refusal.specs.Rules.{answer};
 ghost use Rattle.frame.specs.Format.{frameWith};
 ghost use Rattle.leader.specs.Leader as spec;
 use super::Marks;
-use super::unproven;
 use frame::Heading;
 use refusal::Answer;
 use refusal::Refusal;
@@ -26,7 +25,7 @@ pub(crate) fn check(r: Roster, own: u8, marks: Marks, head: Heading) -> Answer
 {
     let unknown = r.n <= head.sender;
     let stale = !leads(r, own, marks, head.view);
-    let weak = unproven(r, head.mask);
+    let weak = roster::unproven(head.mask, r.n, r.quorum());
     given(
         unknown,
         Refusal::Sender,

@@ -14,7 +14,7 @@ use Rattle.roster.specs.declared.Ballot.{Ballot}
 use Rattle.roster.specs.Roster.{quorum, leaderOf}
 use Rattle.roster.specs.Counts.{laterBallot, sameBallot}
 use Rattle.roster.specs.RosterLaws.{valid-figures}
-use Rattle.roster.specs.Mask.{bit, reaches, beyond}
+use Rattle.roster.specs.Mask.{unproven, bit, reaches, beyond}
 use Rattle.roster.specs.MaskLaws.{with-bit-same, with-bit-other, with-keeps, with-inside}
 use Rattle.basics.specs.Bools.{and-left, and-right, or-left, or-right, or-either}
 use Rattle.command.specs.Command.{allValid, wrong, allBy}
@@ -76,7 +76,6 @@ use Rattle.leader.specs.Leader.{
   validPending,
   config,
   form,
-  unproven,
   leads,
   awaited,
   unfounded,
@@ -132,7 +131,7 @@ pub record Elects (r : Roster) (own room : ℕ) (s : State) (line : List ℕ) : 
   pub kind : kindOf (received line .kind) ≡ LEADER
   pub from-site : leb (r .n) (received line .sender) ≡ false
   pub timely : not (leads r own (marksOf s) (received line .view)) ≡ false
-  pub proven : unproven r (received line .mask) ≡ false
+  pub proven : unproven (received line .mask) (r .n) (quorum r) ≡ false
   pub outcome : step r own room s line ≡ accept (inView s (received line .view)) silent
 
 pub data Stepped (r : Roster) (own room : ℕ) (s : State) (line : List ℕ) : Type 0 where

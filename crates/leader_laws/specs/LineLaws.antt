@@ -16,10 +16,10 @@ use Rattle.roster.specs.declared.Ballot.{Ballot}
 use Rattle.roster.specs.Mask.{bit}
 use Rattle.roster.specs.MaskLaws.{bit-out, beyond-false}
 use Rattle.roster.specs.Sites.{allTo}
-use Rattle.roster.specs.SitesLaws.{all-each, lt-or-le}
+use Rattle.roster.specs.SitesLaws.{all-each}
 use Rattle.command.specs.Command.{wrong}
 use Rattle.command.specs.CommandLaws.{right-commands}
-use Rattle.basics.specs.Bools.{or-left, beq-true}
+use Rattle.basics.specs.Bools.{lt-or-le, or-left, beq-true}
 use Rattle.history.specs.ValidLaws.{valid-nil, valid-parts}
 use Rattle.words.specs.Sizes.{limit, capacity}
 use Rattle.history.specs.Words.{stored}

@@ -9,12 +9,12 @@ use native.Mathlib.Decide.{ℕ-discrete}
 use borrow.Author.Tests.{le-leb, lt-leb, leb-false, not-false, eq-eqb, ne-eqb}
 use lib.Dec.{leb}
 use lib.ListN.{length, length-take, length-append}
-use Rattle.basics.specs.Bools.{true-or-false}
+use Rattle.basics.specs.Bools.{lt-or-le, true-or-false}
 use Rattle.roster.specs.declared.Roster.{Roster}
 use Rattle.roster.specs.Roster.{quorum}
 use Rattle.roster.specs.RosterLaws.{valid-figures}
 use Rattle.roster.specs.Sites.{countTo}
-use Rattle.roster.specs.SitesLaws.{count-cong, lt-or-le}
+use Rattle.roster.specs.SitesLaws.{count-cong}
 use Rattle.history.specs.History.{Equivalent, Extends, extends}
 use Rattle.history.specs.TakesLaws.{equivalent-sym, equivalent-length}
 use Rattle.history.specs.ExtensionLaws.{extends-refl, extends-along, extends-length, extends-sound, extends-complete, extends-refuted}
@@ -24,6 +24,7 @@ use Rattle.merge.specs.declared.Merged.{Merged}
 use Rattle.table.specs.declared.Table.{Table}
 use Rattle.table.specs.Table.{rowOf, storedAt, storedIn}
 use Rattle.table.specs.TableLaws.{Sized, row-stored-other, stored-in}
+use Rattle.content.specs.Content.{contradicts}
 use Rattle.refusal.specs.declared.Refusal.{Refusal}
 use Rattle.refusal.specs.declared.Refusal.the-variants.{Config, Sender, Contradiction}
 use Rattle.refusal.specs.declared.Answer.{Answer}
@@ -50,7 +51,6 @@ use Rattle.learner.specs.Learner.{
   mergeOf,
   accepted,
   refuse,
-  contradicts,
   mergeRules,
   rules,
   step,

@@ -6,7 +6,7 @@ use lib.Dec.{leb}
 use Rattle.roster.specs.declared.Roster.{Roster}
 use Rattle.roster.specs.Roster.{validRoster, quorum}
 use Rattle.roster.specs.Counts.{zeroBallot}
-use Rattle.roster.specs.Mask.{reaches, beyond}
+use Rattle.roster.specs.Mask.{unproven}
 use Rattle.roster.specs.Sites.{countTo}
 use Rattle.history.specs.declared.History.{History as Stored}
 use Rattle.history.specs.History.{extends}
@@ -18,7 +18,7 @@ use Rattle.table.specs.Table.{rowOf, storedAt, emptyTable, validTable}
 use Rattle.refusal.specs.declared.Refusal.{Refusal}
 use Rattle.refusal.specs.declared.Refusal.the-variants.{Config, Form, Sender, Stale, Proof, Contradiction, Split, Full}
 use Rattle.refusal.specs.Rules.{Rule, _gives_, judged}
-use Rattle.content.specs.Content.{historyRules}
+use Rattle.content.specs.Content.{historyRules, contradicts}
 use Rattle.frame.specs.declared.Frame.{Frame}
 use Rattle.frame.specs.Layout.{first}
 use Rattle.frame.specs.Format.{readingOf, malformed}
@@ -103,11 +103,7 @@ abbrev pub voteHeading : Roster → Frame → List Rule
 voteHeading r v =
     leb (r .n) (v .sender) gives Sender ∷
     zeroBallot (v .ballot) gives Stale ∷
-    (beyond (v .mask) (r .n) || not (reaches (v .mask) (quorum r))) gives Proof ∷ []
-
--- CONTRADICTION: the sender's entry and this history, neither extends the other
-unfoldable pub contradicts : List ℕ → List ℕ → Bool
-contradicts entry h = not (extends h entry) && not (extends entry h)
+    unproven (v .mask) (r .n) (quorum r) gives Proof ∷ []
 
 -- of a vote for h whose sender has this entry, up to its merge
 abbrev pub voteRules : Roster → List ℕ → Frame → List ℕ → List Rule

@@ -9,15 +9,15 @@ use native.Mathlib.Decide.{ℕ-discrete}
 use borrow.Author.Tests.{le-leb, leb-false, not-false, ne-eqb}
 use lib.Dec.{leb, eqb, lit<}
 use lib.ListN.{length, length-take}
-use Rattle.basics.specs.Bools.{true-or-false, and-left, and-right, beq-true}
+use Rattle.basics.specs.Bools.{lt-or-le, true-or-false, and-left, and-right, beq-true}
 use Rattle.roster.specs.declared.Roster.{Roster}
 use Rattle.roster.specs.Roster.{validRoster, quorum}
 use Rattle.roster.specs.RosterLaws.{valid-figures}
 use Rattle.roster.specs.Counts.{zeroBallot}
-use Rattle.roster.specs.Mask.{bit, reaches, beyond}
+use Rattle.roster.specs.Mask.{bit, reaches, beyond, unproven}
 use Rattle.roster.specs.MaskLaws.{bit-out}
 use Rattle.roster.specs.Sites.{countTo, allTo}
-use Rattle.roster.specs.SitesLaws.{all-each, lt-or-le}
+use Rattle.roster.specs.SitesLaws.{all-each}
 use Rattle.command.specs.Command.{allValid, wrong}
 use Rattle.history.specs.declared.History.{History as Stored}
 use Rattle.history.specs.History.{Extends, improper, extends, validHistory}
@@ -33,6 +33,7 @@ use Rattle.table.specs.declared.Table.{Table}
 use Rattle.table.specs.Table.{sites, rowOf, storedAt, validTable}
 use Rattle.table.specs.TableLaws.{Sized, stored-sized, row-stored, row-stored-other}
 use Rattle.table.specs.ValidLaws.{valid-stored}
+use Rattle.content.specs.Content.{contradicts}
 use Rattle.refusal.specs.declared.Refusal.{Refusal}
 use Rattle.refusal.specs.declared.Refusal.the-variants.{Config, Form, Sender, Stale, Proof, Command, History as Improper, Contradiction, Split, Full}
 use Rattle.refusal.specs.Rules.{judged}
@@ -57,7 +58,6 @@ use Rattle.learner.specs.Learner.{
   after,
   accepted,
   refuse,
-  contradicts,
   rules,
   step,
 }
@@ -70,7 +70,7 @@ pub record Accepts (r : Roster) (s : State) (line : List ℕ) : Type 0 where
   pub framed : form line ≡ false
   pub from-site : leb (r .n) (vote line .sender) ≡ false
   pub balloted : zeroBallot (vote line .ballot) ≡ false
-  pub proven : (beyond (vote line .mask) (r .n) || not (reaches (vote line .mask) (quorum r))) ≡ false
+  pub proven : unproven (vote line .mask) (r .n) (quorum r) ≡ false
   pub right : wrong (arrived (vote line)) ≡ false
   pub proper : improper (arrived (vote line)) ≡ false
   pub agrees : contradicts (rowOf (s .entries) (vote line .sender)) (arrived (vote line)) ≡ false

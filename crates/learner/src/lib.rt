@@ -65,7 +65,7 @@ fn vote_heading(r: Roster, head: Heading) -> Answer
 {
     let unknown = r.n <= head.sender;
     let stale = head.ballot.is_zero();
-    let unproven = roster::beyond(head.mask, r.n) | !roster::reaches(head.mask, r.quorum());
+    let unproven = roster::unproven(head.mask, r.n, r.quorum());
     given(
         unknown,
         Refusal::Sender,
@@ -75,18 +75,6 @@ fn vote_heading(r: Roster, head: Heading) -> Answer
             given(unproven, Refusal::Proof, Answer::Accepted),
         ),
     )
-}
-
-// Whether neither of a site's entry and h extends the other.
-fn contradicts<'a>(entry: &'a [u64], h: &'a [u64]) -> bool
-    requires { ⌜ (length (now entry) ≤ 64) × (length (now h) ≤ 64) ⌝ }
-    ensures { λ b. ⌜ b ≡ spec.contradicts (now (entry .entry)) (now (h .entry)) ⌝ }
-{
-    let newer = history::extends(h, entry);
-    if newer {
-        return false;
-    }
-    !history::extends(entry, h)
 }
 
 // The answer to a vote for h, up to its merge: the heading, then the commands, then the sender's entry.
@@ -104,7 +92,7 @@ fn on_vote<'a>(r: Roster, entry: &'a [u64], head: Heading, h: &'a [u64]) -> Answ
     if ends {
         return commands;
     }
-    let clash = contradicts(entry, h);
+    let clash = content::contradicts(entry, h);
     given(clash, Refusal::Contradiction, Answer::Accepted)
 }
 

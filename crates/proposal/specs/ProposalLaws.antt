@@ -9,9 +9,9 @@ use borrow.Author.Tests.{lt-ltb, le-ltb, eqb-true}
 use lib.Dec.{eqb}
 use lib.ListN.{length, take, drop, length-take, take-append-drop}
 use lib.Seq.{take-all, take-take, length-take-le}
-use Rattle.basics.specs.Bools.{and-left, and-right, or-left, or-right}
+use Rattle.basics.specs.Bools.{lt-or-le, and-left, and-right, or-left, or-right}
 use Rattle.roster.specs.Mask.{bit}
-use Rattle.roster.specs.SitesLaws.{last-or-below, lt-or-le}
+use Rattle.roster.specs.SitesLaws.{last-or-below}
 use Rattle.command.specs.Command.{sameRequest, validCommand, allValid}
 use Rattle.history.specs.History.{Equivalent, Extends, present, repeated, isCanonical, validHistory}
 use Rattle.history.specs.TakesLaws.{equivalent-sym, equivalent-refl}

@@ -1,8 +1,7 @@
 -- A judgement is either refused by some rule, or accepted with every test false.
 use mathlib.Core.Path.{_≡_, refl, _∙_}
-use mathlib.Core.Bool.{Bool, true, false, cond, _&&_}
-use Prim.Native.Nat.{ℕ}
-use lib.Dec.{ltb, eqb}
+use mathlib.Core.Bool.{Bool, true, false, cond}
+use lib.Dec.{eqb}
 use Rattle.refusal.specs.Refusal.{number}
 use mathlib.Core.List.{List, [], _∷_}
 use Rattle.refusal.specs.declared.Refusal.{Refusal}
@@ -35,11 +34,6 @@ judgement {A} refuse accepted (test gives r ∷ rules) = go test refl (judgement
     go : (b : Bool) → test ≡ b → Judgement refuse accepted rules → Judgement refuse accepted (test gives r ∷ rules)
     go true e j = refused r (at-once e) (judged-first refuse accepted test r rules e)
     go false e j = later e j
-
--- the numbers of the rules rise, so "Checks run in this order"
-unfoldable pub rising : ℕ → List Rule → Bool
-rising n [] = true
-rising n (test gives r ∷ rules) = ltb n (number r) && rising (number r) rules
 
 -- ---- by name
 

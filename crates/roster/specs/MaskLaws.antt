@@ -14,9 +14,9 @@ use lib.Count.{ones, onesIn, ones-cat, ones-step}
 use lib.Dec.{leb, ltb, eqb}
 use lib.Pow.{pow-pos, pow-mono, split, high, low, field, mod-mod-pow, shr-shr, shr-lt, high-ones, pow-lt}
 use borrow.Author.Tests.{leb-true, leb-false, le-leb, lt-leb, lt-ltb, le-ltb}
-use Rattle.basics.specs.Bools.{true-or-false}
+use Rattle.basics.specs.Bools.{lt-or-le, true-or-false}
 use Rattle.roster.specs.Sites.{toNat, countTo, maskTo}
-use Rattle.roster.specs.SitesLaws.{lt-or-le, last-or-below, toNat-le, count-cong, mask-suc}
+use Rattle.roster.specs.SitesLaws.{last-or-below, toNat-le, count-cong, mask-suc}
 use Rattle.roster.specs.Mask.{bit, reaches, beyond, withSite}
 
 -- ---- a bit

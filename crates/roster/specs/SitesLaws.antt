@@ -9,8 +9,7 @@ use native.Mathlib.Numerals.{add-one}
 use native.Mathlib.Omega.{arith}
 use lib.Dec.{ltb}
 use borrow.Author.Tests.{ltb-true, ltb-false}
-pub use Rattle.basics.specs.Bools.{lt-or-le}
-use Rattle.basics.specs.Bools.{and-left, and-right, and-both, true-or-false}
+use Rattle.basics.specs.Bools.{lt-or-le, and-left, and-right, and-both, true-or-false}
 use Rattle.roster.specs.Sites.{toNat, countTo, allTo, maskTo}
 
 -- ---- tests as numbers
@@ -139,10 +138,3 @@ pub mask-miss : (n : ℕ) (p : ℕ → Bool) → p n ≡ false → maskTo (n + 1
 mask-miss n p e =
     ap (λ (k : ℕ). maskTo k p) (add-one n) ∙ mask-suc n p ∙ ap (λ (b : Bool). toNat b * 2 ^ n + maskTo n p) e
     ∙ ap (λ (k : ℕ). k + maskTo n p) (zero-mul (2 ^ n)) ∙ zero-add (maskTo n p)
-
--- the same where the same have it
-pub mask-cong : (n : ℕ) (p q : ℕ → Bool) → ((i : ℕ) → i < n → p i ≡ q i) → maskTo n p ≡ maskTo n q
-unfolding maskTo
-mask-cong zero p q h = refl
-mask-cong (suc n) p q h =
-    ap₂ (λ (k : ℕ) (b : Bool). toNat b * 2 ^ n + k) (mask-cong n p q (λ i l. h i (le-step l))) (h n (lt-suc-self n))

@@ -3,7 +3,7 @@
 ghost use mathlib.Core.Path.{_≡_};
 ghost use Rattle.roster.specs.Roster.{validRoster, quorum, weakCertificate, leaderOf};
 ghost use Rattle.roster.specs.Counts as counts;
-ghost use Rattle.roster.specs.Mask.{reaches, beyond, bit, withSite};
+ghost use Rattle.roster.specs.Mask.{reaches, beyond, unproven, bit, withSite};
 
 // A count of views, from 0.
 #[repr(C)]
@@ -11,17 +11,17 @@ pub struct View(pub u32);
 
 impl View {
     // Whether it is the same view.
-    pub fn equals(self, other: View) -> bool
-        ensures { λ b. ⌜ b ≡ counts.sameView self other ⌝ }
+    pub fn equals(self, view: View) -> bool
+        ensures { λ b. ⌜ b ≡ counts.sameView self view ⌝ }
     {
-        self.0 == other.0
+        self.0 == view.0
     }
 
     // Whether it is a later view.
-    pub fn above(self, other: View) -> bool
-        ensures { λ b. ⌜ b ≡ counts.laterView self other ⌝ }
+    pub fn above(self, view: View) -> bool
+        ensures { λ b. ⌜ b ≡ counts.laterView self view ⌝ }
     {
-        other.0 < self.0
+        view.0 < self.0
     }
 
     // Whether it is view 0, which is no target.
@@ -45,17 +45,17 @@ pub struct Ballot(pub u32);
 
 impl Ballot {
     // Whether it is the same ballot.
-    pub fn equals(self, other: Ballot) -> bool
-        ensures { λ b. ⌜ b ≡ counts.sameBallot self other ⌝ }
+    pub fn equals(self, ballot: Ballot) -> bool
+        ensures { λ b. ⌜ b ≡ counts.sameBallot self ballot ⌝ }
     {
-        self.0 == other.0
+        self.0 == ballot.0
     }
 
     // Whether it is a later ballot.
-    pub fn above(self, other: Ballot) -> bool
-        ensures { λ b. ⌜ b ≡ counts.laterBallot self other ⌝ }
+    pub fn above(self, ballot: Ballot) -> bool
+        ensures { λ b. ⌜ b ≡ counts.laterBallot self ballot ⌝ }
     {
-        other.0 < self.0
+        ballot.0 < self.0
     }
 
     // Whether it is ballot 0.
@@ -142,6 +142,13 @@ pub fn beyond(mask: u16, n: u8) -> bool
     } else {
         false
     }
+}
+
+// Whether a mask proves too little: some bit at `n` or above is set, or it has fewer than `needed` ones.
+pub fn unproven(mask: u16, n: u8, needed: u32) -> bool
+    ensures { λ r. ⌜ r ≡ unproven mask n needed ⌝ }
+{
+    beyond(mask, n) | !reaches(mask, needed)
 }
 
 // Whether the site's bit is set; the sites from 16 on are in no mask.

@@ -8,7 +8,7 @@ use borrow.Author.Tests.{not-true}
 use lib.Count.{ones, onesIn}
 use Rattle.basics.specs.Bools.{and-left, and-right}
 use Rattle.roster.specs.Sites.{countTo, allTo}
-use Rattle.roster.specs.Mask.{bit, reaches, beyond}
+use Rattle.roster.specs.Mask.{unproven, bit, reaches, beyond}
 use Rattle.roster.specs.Roster.{validRoster, quorum}
 use Rattle.command.specs.Command.{validArgument, validCommand, allValid, wrong, field, proposer, kind, serial, slot, argument, sameRequest, kindsTable, kindsConflict, conflict}
 use Rattle.history.specs.History.{present, repeated, apart, free, least, without, ordered, canonical, equal, isCanonical, validHistory, improper, comesOff, extends}
@@ -24,7 +24,8 @@ use Rattle.refusal.specs.Rules.{judged}
 use Rattle.frame.specs.Hex.{digit, isDigit, valueOf, allDigits, byteOf, numberFrom, digitsOf, spell, numbers, allFit, total}
 use Rattle.frame.specs.Kinds.{uses, isKind, zeroUnless, unusedZero}
 use Rattle.frame.specs.Format.{lineOf, proper, allZero, fits, writable, framed, frameOf, isLine, readingOf, malformed}
-use Rattle.learner.specs.Learner.{fresh, config, contradicts, withVote, supporters, claimed, claims, further, merging, step}
+use Rattle.content.specs.Content.{contradicts}
+use Rattle.learner.specs.Learner.{fresh, config, withVote, supporters, claimed, claims, further, merging, step}
 use Rattle.learner.specs.Run.{run, outcomes}
 use Rattle.samples.specs.Samples.{Sample, order, extension, no-extension, merged, split, votes, four, answers, Holds, samples, AllHold, end, line}
 
@@ -98,7 +99,7 @@ unfolding
     field proposer kind serial slot argument validArgument validCommand allValid sameRequest kindsTable kindsConflict conflict
     present repeated apart free least without ordered canonical equal isCanonical validHistory comesOff extends padded validStored
     appended merge answered answer.merged
-    validRoster quorum bit reaches beyond ones onesIn countTo allTo
+    validRoster quorum bit reaches beyond unproven ones onesIn countTo allTo
     inRange row storedAt emptyTable validRow validTable
     judged
     digit isDigit valueOf allDigits byteOf numberFrom digitsOf spell numbers allFit total

@@ -8,7 +8,7 @@ use native.Mathlib.Omega.{arith}
 use borrow.Author.Tests.{lt-ltb, le-ltb, le-leb, lt-leb}
 use lib.ListN.{length, take, drop, getD, set, replicate, length-set, length-drop, length-replicate, List·getD-eq-default}
 use lib.Seq.{sets, sets-eq, length-sets, length-take-le, take-append-le, take-set-le, drop-set-lt, drop-set-add, drop-at, getD-set-same, getD-set-other}
-use Rattle.roster.specs.SitesLaws.{lt-or-le}
+use Rattle.basics.specs.Bools.{lt-or-le}
 use Rattle.history.specs.Words.{capacity, padded}
 use Rattle.history.specs.WordsLaws.{length-padded, take-padded}
 use Rattle.table.specs.declared.Table.{Table}

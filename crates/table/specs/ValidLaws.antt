@@ -10,8 +10,8 @@ use borrow.Author.Tests.{leb-true, lt-ltb, le-ltb, le-leb, eqb-true, eq-eqb}
 use lib.Dec.{leb, ltb, eqb}
 use lib.ListN.{length, getD, length-set}
 use lib.Seq.{length-sets, getD-set-other}
-use Rattle.basics.specs.Bools.{and-left, and-right}
-use Rattle.roster.specs.SitesLaws.{all-each, each-all, lt-or-le}
+use Rattle.basics.specs.Bools.{lt-or-le, and-left, and-right}
+use Rattle.roster.specs.SitesLaws.{all-each, each-all}
 use Rattle.history.specs.History.{validHistory}
 use Rattle.history.specs.ValidLaws.{valid-nil}
 use Rattle.history.specs.Words.{capacity}

@@ -9,7 +9,7 @@ use Rattle.roster.specs.declared.Roster.{Roster}
 use Rattle.roster.specs.declared.View.{View}
 use Rattle.roster.specs.Roster.{quorum, weakCertificate}
 use Rattle.roster.specs.Counts.{sameView, laterView, zeroView, lastView}
-use Rattle.roster.specs.Mask.{reaches, beyond, withSite}
+use Rattle.roster.specs.Mask.{reaches, unproven, withSite}
 use Rattle.refusal.specs.declared.Refusal.the-variants.{Config, Form, Sender, Stale, Proof, Full}
 use Rattle.refusal.specs.Rules.{Rule, _gives_, judged}
 use Rattle.frame.specs.declared.Frame.{Frame}
@@ -85,16 +85,13 @@ suspicionRules r v site view =
     not (sameView view (v .view)) gives Stale ∷
     full r v site gives Full ∷ []
 
--- PROOF: "a mask bit at N or above", or fewer than f+1 ones
-unfoldable pub proof : Roster → ℕ → Bool
-proof r mask = beyond mask (r .n) || not (reaches mask (weakCertificate r))
-
--- VIEWCHANGE to a view from a site, with a mask. STALE: "VIEWCHANGE needs a view above its own and not below the target"
+-- VIEWCHANGE to a view from a site, with a mask. STALE: "VIEWCHANGE needs a view above its own and not below
+-- the target, and f+1 ones"
 abbrev pub changeRules : Roster → ViewRecord → ℕ → View → ℕ → List Rule
 changeRules r v site view mask =
     sender r site gives Sender ∷
     (not (laterView view (v .view)) || laterView (v .target) view) gives Stale ∷
-    proof r mask gives Proof ∷ []
+    unproven mask (r .n) (weakCertificate r) gives Proof ∷ []
 
 -- the checks of a frame of a kind, and all checks of a line
 abbrev pub frameRules : Kind → Roster → ViewRecord → Frame → List Rule

@@ -11,7 +11,7 @@ use lib.Count.{ones, onesIn}
 use lib.Dec.{eqb, lit<}
 use lib.ListN.{length}
 use Rattle.words.specs.Sizes.{limit}
-use Rattle.basics.specs.Bools.{true-or-false, and-left, and-right, or-left, beq-true, everyBelow}
+use Rattle.basics.specs.Bools.{lt-or-le, true-or-false, and-left, and-right, or-left, beq-true, everyBelow}
 use Rattle.words.specs.Words.{padded}
 use Rattle.roster.specs.declared.Roster.{Roster}
 use Rattle.roster.specs.declared.View.{View}
@@ -21,7 +21,7 @@ use Rattle.roster.specs.Counts.{sameView, laterView, lastView}
 use Rattle.roster.specs.Sites.{allTo}
 use Rattle.roster.specs.Mask.{bit, reaches, withSite}
 use Rattle.roster.specs.MaskLaws.{bit-out, with-past, with-old, with-ones, with-fits, with-inside}
-use Rattle.roster.specs.SitesLaws.{lt-or-le, all-each}
+use Rattle.roster.specs.SitesLaws.{all-each}
 use Rattle.refusal.specs.declared.Refusal.{Refusal}
 use Rattle.refusal.specs.declared.Refusal.the-variants.{Config, Form, Sender, Stale, Full}
 use Rattle.refusal.specs.Rules.{_gives_}

@@ -88,13 +88,6 @@ fn on_suspicion(r: Roster, v: ViewRecord, site: u8, view: View) -> Answer
     )
 }
 
-// Whether a mask has a bit at N or above, or fewer than f+1 ones.
-fn unproven(r: Roster, mask: u16) -> bool
-    ensures { λ b. ⌜ b ≡ spec.proof r mask ⌝ }
-{
-    roster::beyond(mask, r.n) | !roster::reaches(mask, r.weak_certificate())
-}
-
 // The answer to a VIEWCHANGE to a view from a site, with a mask.
 fn on_change(r: Roster, v: ViewRecord, site: u8, view: View, mask: u16) -> Answer
     ensures { λ a. ⌜ a ≡ answer (spec.changeRules r v site view mask) ⌝ }
@@ -103,7 +96,7 @@ fn on_change(r: Roster, v: ViewRecord, site: u8, view: View, mask: u16) -> Answe
     let target = v.target;
     let nobody = unknown(r, site);
     let stale = !view.above(present) | target.above(view);
-    let lacks = unproven(r, mask);
+    let lacks = roster::unproven(mask, r.n, r.weak_certificate());
     given(
         nobody,
         Refusal::Sender,

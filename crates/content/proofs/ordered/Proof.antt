@@ -1,4 +1,4 @@
--- `content::ordered` meets its contract: each test is its rule's, and they are given in the rules' order.
+-- `content::ordered` meets its contract: COMMAND is given first, and then what HISTORY answers.
 -- Assumes nothing.
 use Rattle.command.specs.Command.{wrong}
 use Rattle.refusal.specs.Rules.{judged}
@@ -9,20 +9,20 @@ use Rattle.content.proofs.ordered.Tie as tie
 all-valid-requires : tie.Need-all-valid-requires
 all-valid-requires c κs = search needs
 
+returns : tie.Need-returns
+unfolding judged wrong
+returns c = rw (← c .before .all-valid .ensures, c .if1 .taken)
+
 improper-requires : tie.Need-improper-requires
 improper-requires c κs = search needs
 
 given-requires : tie.Need-given-requires
 given-requires c κs = search needs
 
-given-requires-2 : tie.Need-given-requires-2
-given-requires-2 c κs = search needs
-
-returns : tie.Need-returns
+returns-2 : tie.Need-returns-2
 unfolding judged wrong
-returns c = cc
+returns-2 c = rw (← c .before .before .before .all-valid .ensures, c .before .before .if1 .left) (cc)
 
 pub ordered-spec : {M : Type 1} → statement M
 ordered-spec =
-    tie.close
-    (tie.spec all-valid-requires improper-requires given-requires given-requires-2 returns)
+    tie.close (tie.spec all-valid-requires returns improper-requires given-requires returns-2)

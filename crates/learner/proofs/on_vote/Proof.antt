@@ -1,5 +1,7 @@
 -- `learner::on_vote` meets its contract: heading, commands and entry are asked in this order, and the first refusal is the answer.
 -- Assumes nothing.
+use mathlib.Core.Path.{_∙_}
+use Rattle.content.specs.ContentLaws.{contradicts-within}
 use Rattle.refusal.specs.AnswerLaws.{rule, no-rule, stops, goes-on}
 use borrow.Author.Needs.{needs}
 use Rattle.learner.proofs.on_vote.Statement.{statement}
@@ -33,7 +35,7 @@ given-requires c κs = search needs
 returns-3 : tie.Need-returns-3
 returns-3 c =
     goes-on _ _ (c .before .before .before .before .before .before .before .vote-heading .ensures) (c .before .before .before .before .before .before .refuses .ensures) (c .before .before .before .before .before .if1 .left)
-    (goes-on _ _ (c .before .before .before .before .ordered .ensures) (c .before .before .before .refuses2 .ensures) (c .before .before .if2 .left) (rule _ _ (c .given .ensures) (c .before .contradicts .ensures) no-rule))
+    (goes-on _ _ (c .before .before .before .before .ordered .ensures) (c .before .before .before .refuses2 .ensures) (c .before .before .if2 .left) (rule _ _ (c .given .ensures) (c .before .contradicts .ensures ∙ contradicts-within 64 _ _ (c .before .before .before .before .before .before .before .before .before .before .pre .0) (c .before .before .before .before .before .before .before .before .before .before .pre .1)) no-rule))
 
 pub on-vote-spec : {M : Type 1} → statement M
 on-vote-spec =

@@ -8,14 +8,11 @@ use Rattle.learner.proofs.vote_heading.Tie as tie
 is-zero-requires : tie.Need-is-zero-requires
 is-zero-requires c κs = search needs
 
-beyond-requires : tie.Need-beyond-requires
-beyond-requires c κs = search needs
-
 quorum-requires : tie.Need-quorum-requires
 quorum-requires c κs = search needs
 
-reaches-requires : tie.Need-reaches-requires
-reaches-requires c κs = search needs
+unproven-requires : tie.Need-unproven-requires
+unproven-requires c κs = search needs
 
 given-requires : tie.Need-given-requires
 given-requires c κs = search needs
@@ -35,9 +32,8 @@ vote-heading-spec =
     tie.close
     (tie.spec
     is-zero-requires
-    beyond-requires
     quorum-requires
-    reaches-requires
+    unproven-requires
     given-requires
     given-requires-2
     given-requires-3

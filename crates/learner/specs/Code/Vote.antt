@@ -13,9 +13,10 @@ use Rattle.table.specs.Table.{sites, row, rowOf}
 use Rattle.refusal.specs.declared.Refusal.the-variants.{Config, Form}
 use Rattle.refusal.specs.Rules.{Rule, _gives_, judged}
 use Rattle.frame.specs.declared.Reading.{Reading}
+use Rattle.content.specs.Content.{contradicts}
 use Rattle.learner.specs.declared.State.{State}
 use Rattle.learner.specs.declared.Outcome.{Outcome}
-use Rattle.learner.specs.Learner.{config, arrived, withVote, mergeOf, accepted, refuse, contradicts, voteRules, mergeRules}
+use Rattle.learner.specs.Learner.{config, arrived, withVote, mergeOf, accepted, refuse, voteRules, mergeRules}
 
 -- the checks of a line of which this was read, up to those of the merge
 abbrev pub checks : Roster → State → Reading → List Rule

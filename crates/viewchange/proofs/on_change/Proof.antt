@@ -14,6 +14,9 @@ above-requires c κs = search needs
 above-requires-2 : tie.Need-above-requires-2
 above-requires-2 c κs = search needs
 
+weak-certificate-requires : tie.Need-weak-certificate-requires
+weak-certificate-requires c κs = search needs
+
 unproven-requires : tie.Need-unproven-requires
 unproven-requires c κs = search needs
 
@@ -37,6 +40,7 @@ on-change-spec =
     unknown-requires
     above-requires
     above-requires-2
+    weak-certificate-requires
     unproven-requires
     given-requires
     given-requires-2

@@ -1,5 +1,8 @@
 -- `acceptor::verify::check` meets its contract: a tier that refuses is the answer, else the next tier is.
 -- Assumes nothing.
+use mathlib.Core.Path.{_∙_}
+use native.Mathlib.Omega.{arith}
+use Rattle.content.specs.ContentLaws.{contradicts-within}
 use Rattle.refusal.specs.AnswerLaws.{rule, no-rule, stops, goes-on}
 use borrow.Author.Needs.{needs}
 use Rattle.acceptor.proofs.verify.check.Statement.{statement}
@@ -33,7 +36,7 @@ given-requires c κs = search needs
 returns-3 : tie.Need-returns-3
 returns-3 c =
     goes-on _ _ (c .before .before .before .before .before .before .before .check-heading .ensures) (c .before .before .before .before .before .before .refuses .ensures) (c .before .before .before .before .before .if1 .left)
-    (goes-on _ _ (c .before .before .before .before .ordered .ensures) (c .before .before .before .refuses2 .ensures) (c .before .before .if2 .left) (rule _ _ (c .given .ensures) (c .before .contradicts .ensures) no-rule))
+    (goes-on _ _ (c .before .before .before .before .ordered .ensures) (c .before .before .before .refuses2 .ensures) (c .before .before .if2 .left) (rule _ _ (c .given .ensures) (c .before .contradicts .ensures ∙ contradicts-within 64 _ _ (omega (arith, c .before .before .before .before .before .before .before .before .before .before .pre .0)) (omega (arith, c .before .before .before .before .before .before .before .before .before .before .pre .1))) no-rule))
 
 pub check-spec : {M : Type 1} → statement M
 check-spec =

@@ -6,7 +6,7 @@ use denote.Ref.{now}
 use Rattle.leader.specs.declared.State.{State}
 use Rattle.leader.specs.Leader.{conclude}
 use Rattle.leader.specs.Parts.{outcomeOf}
-use Rattle.leader.specs.code.Calls.{Done}
+use Rattle.leader.specs.Code.Calls.{Done}
 use Rattle.leader.proofs.Calls.{stored-report}
 use borrow.Author.Needs.{needs}
 use Rattle.leader.proofs.report.collect.Statement.{statement}

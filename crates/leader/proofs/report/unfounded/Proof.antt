@@ -12,12 +12,15 @@ returns : tie.Need-returns
 unfolding unfounded
 returns c = rw (c .before .if1 .taken) (cc)
 
+quorum-requires : tie.Need-quorum-requires
+quorum-requires c κs = search needs
+
 unproven-requires : tie.Need-unproven-requires
 unproven-requires c κs = search needs
 
 returns-2 : tie.Need-returns-2
 unfolding unfounded
-returns-2 c = rw (c .before .if1 .left) (c .unproven .ensures)
+returns-2 c = rw (c .before .before .if1 .left, ← c .before .quorum .ensures) (c .unproven .ensures)
 
 pub unfounded-spec : {M : Type 1} → statement M
-unfounded-spec = tie.close (tie.spec is-zero-requires returns unproven-requires returns-2)
+unfounded-spec = tie.close (tie.spec is-zero-requires returns quorum-requires unproven-requires returns-2)

@@ -8,6 +8,9 @@ use Rattle.leader.proofs.view.check.Tie as tie
 leads-requires : tie.Need-leads-requires
 leads-requires c κs = search needs
 
+quorum-requires : tie.Need-quorum-requires
+quorum-requires c κs = search needs
+
 unproven-requires : tie.Need-unproven-requires
 unproven-requires c κs = search needs
 
@@ -29,6 +32,7 @@ check-spec =
     tie.close
     (tie.spec
     leads-requires
+    quorum-requires
     unproven-requires
     given-requires
     given-requires-2
