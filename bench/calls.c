@@ -89,7 +89,7 @@ static bool same_acceptor(const speckleewe_acceptor_state *a, const speckleewe_a
 {
     return a->ballot.number == b->ballot.number && a->fast == b->fast && a->signed_ == b->signed_
         && same_history(&a->held, &b->held) && same_history(&a->proven, &b->proven)
-        && a->certified.number == b->certified.number && a->certificate == b->certificate
+        && a->proven_ballot.number == b->proven_ballot.number && a->certificate == b->certificate
         && same_table(&a->verified, &b->verified);
 }
 

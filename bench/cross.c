@@ -143,7 +143,7 @@ static void plant_acceptor(speckleewe_acceptor_state *a)
     a->signed_ = (uint8_t)below(2);
     plant_history(&a->held);
     plant_history(&a->proven);
-    a->certified.number = below(4);
+    a->proven_ballot.number = below(4);
     a->certificate = some_mask();
     plant_table(&a->verified);
 }
@@ -334,7 +334,7 @@ static plain_header some_header(enum function function, uint32_t view, uint32_t 
     if (h.kind == LEADER && !once_in(4))
         h.view = h.view - h.view % roster.n + own;
     h.mask = some_mask();
-    h.proven = below(3);
+    h.proven_ballot = below(3);
     if (h.kind == PROPOSE)
         h.sender = (uint8_t)below(5);
     if (once_in(40))
@@ -352,7 +352,7 @@ static void clear_unused(plain_header *h)
     if (h->kind >= SUSPICION)
         h->ballot = 0;
     if (h->kind != P1B)
-        h->proven = 0;
+        h->proven_ballot = 0;
     if (h->kind != P1B && h->kind != P2B && h->kind != VIEWCHANGE && h->kind != LEADER)
         h->mask = 0;
     if (h->kind <= FAST || h->kind >= SUSPICION)
@@ -397,7 +397,7 @@ static void make_line(struct call *c, uint32_t view, uint32_t ballot)
     if (h.kind == P1B && (once_in(4) || h.n == 0)) {
         h.n = 0;
         if (!once_in(8))
-            h.proven = h.mask = 0;
+            h.proven_ballot = h.mask = 0;
     }
     if (!once_in(60))
         clear_unused(&h);

@@ -133,7 +133,7 @@ static inline const uint64_t *row_of(const speckleewe_table *t, unsigned site)
 
 typedef struct {
     uint8_t kind, sender;
-    uint32_t view, ballot, proven;
+    uint32_t view, ballot, proven_ballot;
     uint16_t mask;
     uint8_t n, m;
 } plain_header;

@@ -74,8 +74,9 @@ static speckleewe_reply take_ballot(speckleewe_acceptor_state *a, uint8_t own,
     if (h->kind == FAST)
         return plain_accept(0);
     plain_header p1b = {
-        .kind = P1B, .sender = own, .ballot = a->ballot.number, .proven = a->certified.number,
-        .mask = a->certificate, .n = a->proven.count, .m = a->held.count,
+        .kind = P1B, .sender = own, .ballot = a->ballot.number,
+        .proven_ballot = a->proven_ballot.number, .mask = a->certificate,
+        .n = a->proven.count, .m = a->held.count,
     };
     return plain_accept(plain_write(p1b, a->proven.words, a->held.words, out));
 }
@@ -148,11 +149,11 @@ static speckleewe_reply prove(speckleewe_acceptor_state *a, speckleewe_roster r,
 
     if (ones(mask) < quorum_of(r) || !plain_extends(h, n, proven->words, proven->count))
         return plain_accept(0);
-    if (a->certified.number == a->ballot.number && proven->count == n
+    if (a->proven_ballot.number == a->ballot.number && proven->count == n
         && memcmp(proven->words, h, n * sizeof *h) == 0)
         return plain_accept(0);
     plain_keep(proven, h, n);
-    a->certified.number = a->ballot.number;
+    a->proven_ballot.number = a->ballot.number;
     a->certificate = mask;
     plain_header p2b = {
         .kind = P2B, .sender = own, .ballot = a->ballot.number, .mask = mask, .n = (uint8_t)n,

@@ -4,12 +4,12 @@
 enum { HEADER = 36, COMMAND_DIGITS = 16 }; /* in characters */
 
 /* The fields that a kind may use besides the sender. */
-enum { VIEW = 1, BALLOT = 2, PROVEN = 4, MASK = 8, COUNT_N = 16, COUNT_M = 32 };
+enum { VIEW = 1, BALLOT = 2, PROVEN_BALLOT = 4, MASK = 8, COUNT_N = 16, COUNT_M = 32 };
 
 static const uint8_t uses[] = {
     [P1A] = VIEW | BALLOT,
     [FAST] = VIEW | BALLOT,
-    [P1B] = BALLOT | PROVEN | MASK | COUNT_N | COUNT_M,
+    [P1B] = BALLOT | PROVEN_BALLOT | MASK | COUNT_N | COUNT_M,
     [PROPOSE] = BALLOT | COUNT_N,
     [P2A] = VIEW | BALLOT | COUNT_N,
     [VERIFY] = VIEW | BALLOT | COUNT_N,
@@ -45,13 +45,13 @@ static inline bool get(const uint8_t **at, int digits, uint64_t *number)
 /* Reads the header's fields, whatever they say; false if not all are digits. */
 static bool get_header(const uint8_t **at, plain_header *h)
 {
-    uint64_t kind, sender, view, ballot, proven, mask, n, m;
+    uint64_t kind, sender, view, ballot, proven_ballot, mask, n, m;
 
     if (!get(at, 2, &kind) || !get(at, 2, &sender) || !get(at, 8, &view) || !get(at, 8, &ballot)
-        || !get(at, 8, &proven) || !get(at, 4, &mask) || !get(at, 2, &n) || !get(at, 2, &m))
+        || !get(at, 8, &proven_ballot) || !get(at, 4, &mask) || !get(at, 2, &n) || !get(at, 2, &m))
         return false;
     *h = (plain_header){
-        (uint8_t)kind, (uint8_t)sender, (uint32_t)view, (uint32_t)ballot, (uint32_t)proven,
+        (uint8_t)kind, (uint8_t)sender, (uint32_t)view, (uint32_t)ballot, (uint32_t)proven_ballot,
         (uint16_t)mask, (uint8_t)n, (uint8_t)m,
     };
     return true;
@@ -63,7 +63,7 @@ static bool unused_zero(const plain_header *h)
     unsigned u = uses[h->kind];
 
     return (u & VIEW || h->view == 0) && (u & BALLOT || h->ballot == 0)
-        && (u & PROVEN || h->proven == 0) && (u & MASK || h->mask == 0)
+        && (u & PROVEN_BALLOT || h->proven_ballot == 0) && (u & MASK || h->mask == 0)
         && (u & COUNT_N || h->n == 0) && (u & COUNT_M || h->m == 0);
 }
 
@@ -106,7 +106,7 @@ size_t plain_write(plain_header h, const uint64_t *first, const uint64_t *second
     at = put(at, 2, h.sender);
     at = put(at, 8, h.view);
     at = put(at, 8, h.ballot);
-    at = put(at, 8, h.proven);
+    at = put(at, 8, h.proven_ballot);
     at = put(at, 4, h.mask);
     at = put(at, 2, h.n);
     at = put(at, 2, h.m);

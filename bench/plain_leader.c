@@ -32,7 +32,7 @@ static enum answer check(const plain_header *h, const speckleewe_leader_state *s
     if (!timely(h, s, r, own))
         return STALE;
     if (h->kind == P1B && h->n == 0)
-        return h->proven == 0 && h->mask == 0 ? ACCEPTED : PROOF;
+        return h->proven_ballot == 0 && h->mask == 0 ? ACCEPTED : PROOF;
     if (beyond(h->mask, r) || ones(h->mask) < quorum_of(r))
         return PROOF;
     return ACCEPTED;

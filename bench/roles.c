@@ -145,7 +145,7 @@ static struct call *acceptor(const char *frame, speckleewe_roster r, int length,
     keep(&a->held, held);
     keep(&a->proven, proven);
     if (proven->n > 0) {
-        a->certified.number = BALLOT - 1;
+        a->proven_ballot.number = BALLOT - 1;
         a->certificate = first_sites(quorum_of(r));
     }
     fill(&a->verified, r.n, entries);
@@ -224,7 +224,7 @@ static void leader_inputs(speckleewe_roster r, int length)
     send_frame(c, head, &one, &none);
     head = (plain_header){ .kind = P1B, .sender = (uint8_t)(quorum - 1), .ballot = BALLOT };
     if (length > 0) {
-        head.proven = BALLOT - 1;
+        head.proven_ballot = BALLOT - 1;
         head.mask = first_sites(quorum);
     }
     c = leader(A_LEADER, "P1B first", r, length, ACCEPTED, false, 0);

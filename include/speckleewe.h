@@ -169,14 +169,14 @@ typedef struct {
 
 /* What an acceptor keeps; its view is the one in the view-change record. */
 typedef struct {
-    speckleewe_ballot ballot;    /* the present ballot */
-    uint8_t fast;                /* not 0: the ballot is a fast one */
-    uint8_t signed_;             /* not 0: it signed in this ballot */
-    speckleewe_history held;     /* canonical */
-    speckleewe_history proven;   /* canonical */
-    speckleewe_ballot certified; /* the ballot that `proven` was proven in */
-    uint16_t certificate;        /* the sites whose VERIFY proved it */
-    speckleewe_table verified;   /* each site's last VERIFY of this ballot */
+    speckleewe_ballot ballot;        /* the present ballot */
+    uint8_t fast;                    /* not 0: the ballot is a fast one */
+    uint8_t signed_;                 /* not 0: it signed in this ballot */
+    speckleewe_history held;         /* canonical */
+    speckleewe_history proven;       /* canonical */
+    speckleewe_ballot proven_ballot; /* the ballot that `proven` was proven in */
+    uint16_t certificate;            /* the sites whose VERIFY proved it */
+    speckleewe_table verified;       /* each site's last VERIFY of this ballot */
 } speckleewe_acceptor_state;
 
 /* A site: acceptor and view change, which share the view-change record. */

@@ -103,7 +103,7 @@ static void paint(void)
     speckleewe_acceptor_state *a = &fields.site.acceptor;
     speckleewe_leader_state *e = &fields.leader;
     paint_views(&fields.site.views);
-    a->ballot.number = a->certified.number = UINT32_MAX;
+    a->ballot.number = a->proven_ballot.number = UINT32_MAX;
     a->fast = a->signed_ = UINT8_MAX;
     a->certificate = UINT16_MAX;
     paint_history(&a->held);

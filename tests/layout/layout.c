@@ -34,7 +34,7 @@ static void states(void)
     FIELD(acceptor_state, signed_);
     FIELD(acceptor_state, held);
     FIELD(acceptor_state, proven);
-    FIELD(acceptor_state, certified);
+    FIELD(acceptor_state, proven_ballot);
     FIELD(acceptor_state, certificate);
     FIELD(acceptor_state, verified);
     TYPE(site);

@@ -30,7 +30,7 @@ fn main() {
     show!("table", Table: counts words);
     show!("view_record", ViewRecord: view suspicions target changes);
     show!("acceptor_state", Acceptor:
-        ballot fast signed held proven certified certificate verified);
+        ballot fast signed held proven proven_ballot certificate verified);
     show!("site", Site: views acceptor);
     show!("opening", Opening: ballot fast);
     show!("leader_state", Leader: view ballot classic pending reported proven held);

@@ -88,8 +88,8 @@ try $a 'N-f+1 equal entries needed' acceptor.rs \
 try $a 'proven without extending the proven' acceptor.rs \
     '|| !extends(h, commands(&s.proven)) || already' '|| already'
 try $a 'proven twice in a ballot' acceptor.rs ' || already {' ' {'
-try $a 'proven once in all ballots' acceptor.rs ' && s.certified == s.ballot;' ';'
-try $a 'the proven ballot stays' acceptor.rs '    after.certified = s.ballot;' ''
+try $a 'proven once in all ballots' acceptor.rs ' && s.proven_ballot == s.ballot;' ';'
+try $a 'the proven ballot stays' acceptor.rs '    after.proven_ballot = s.ballot;' ''
 try $a 'the mask before storing' acceptor.rs \
     'equal_entries(site.roster, &after.verified, h)' 'equal_entries(site.roster, &s.verified, h)'
 try $a 'PROPOSE needs a site number' acceptor.rs 'PROPOSE => f.sender != 0' \
@@ -182,8 +182,8 @@ try $d 'a new view closes the ballot' leader.rs 'Leader { view: f.view, ..s.clon
 try $d 'f+1 ones are enough' leader.rs 'f.mask.count_ones() >= quorum(r)' \
     'f.mask.count_ones() > u32::from(r.f)'
 try $d 'mask bits at N or above pass' leader.rs '!bit_outside(r, f.mask) &&' ''
-try $d 'nothing proven, with a mask' leader.rs 'f.proven == 0 && f.mask == 0' 'f.proven == 0'
-try $d 'nothing proven, with a ballot' leader.rs 'f.proven == 0 && f.mask == 0' 'f.mask == 0'
+try $d 'nothing proven, with a mask' leader.rs 'f.proven_ballot == 0 && f.mask == 0' 'f.proven_ballot == 0'
+try $d 'nothing proven, with a ballot' leader.rs 'f.proven_ballot == 0 && f.mask == 0' 'f.mask == 0'
 try $d 'held commands may be wrong' leader.rs 'right(&frame.first) && right(&frame.second)' \
     'right(&frame.first)'
 try $d 'held histories may be in any order' leader.rs '[&frame.first, &frame.second].iter()' \

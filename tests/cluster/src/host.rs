@@ -64,7 +64,7 @@ impl Host {
         match f.kind {
             VIEWCHANGE => bits.all(|i| self.suspected.contains(&(i, f.view.wrapping_sub(1)))),
             LEADER => bits.all(|i| self.changed.contains(&(i, f.view))),
-            P1B => bits.all(|i| self.signed.contains(&(i, f.proven, frame.first.clone()))),
+            P1B => bits.all(|i| self.signed.contains(&(i, f.proven_ballot, frame.first.clone()))),
             _ => true,
         }
     }

@@ -128,7 +128,7 @@ impl Cluster {
     /// Votes as an honest site has proven.
     fn vote_along(&mut self, liar: u8) {
         let Some(site) = self.some_site() else { return };
-        let (ballot, h) = (site.acceptor.certified, commands(&site.acceptor.proven).to_vec());
+        let (ballot, h) = (site.acceptor.proven_ballot, commands(&site.acceptor.proven).to_vec());
         if h.is_empty() {
             return;
         }
@@ -211,7 +211,7 @@ impl Cluster {
     fn report_falsely(&mut self, liar: u8) {
         let Some(site) = self.some_site() else { return };
         let (view, ballot) = (site.views.view, site.acceptor.ballot);
-        let (proven_ballot, mask) = (site.acceptor.certified, site.acceptor.certificate);
+        let (proven_ballot, mask) = (site.acceptor.proven_ballot, site.acceptor.certificate);
         let proven = commands(&site.acceptor.proven).to_vec();
         let held = commands(&site.acceptor.held).to_vec();
         let n = usize::from(self.plan.roster.n);
@@ -225,7 +225,7 @@ impl Cluster {
                 twist(&mut self.rng, &proven, &self.made),
             ),
         };
-        let fields = Fields { ballot, proven: proven_ballot, mask, ..Fields::of(P1B, liar) };
+        let fields = Fields { ballot, proven_ballot, mask, ..Fields::of(P1B, liar) };
         let line = Rc::new(frames::write(fields, &proven, &held));
         self.send(Place::Leader((view % u32::from(self.plan.roster.n)) as u8), &line);
     }

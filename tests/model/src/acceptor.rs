@@ -78,7 +78,7 @@ fn open(site: &Site, s: &Acceptor, f: &Fields) -> Verdict {
     }
     let fields = Fields {
         ballot: f.ballot,
-        proven: s.certified,
+        proven_ballot: s.proven_ballot,
         mask: s.certificate,
         ..Fields::of(P1B, site.own)
     };
@@ -137,12 +137,12 @@ fn verify(site: &Site, s: &Acceptor, sender: u8, h: &[Command]) -> Verdict {
     let mut after = s.clone();
     store(&mut after.verified, usize::from(sender), h);
     let mask = equal_entries(site.roster, &after.verified, h);
-    let already = commands(&s.proven) == h && s.certified == s.ballot;
+    let already = commands(&s.proven) == h && s.proven_ballot == s.ballot;
     if mask.count_ones() < quorum(site.roster) || !extends(h, commands(&s.proven)) || already {
         return Ok((after, None));
     }
     after.proven = stored(h);
-    after.certified = s.ballot;
+    after.proven_ballot = s.ballot;
     after.certificate = mask;
     let fields = Fields { ballot: s.ballot, mask, ..Fields::of(P2B, site.own) };
     Ok((after, Some(frames::write(fields, h, &[]))))

@@ -20,7 +20,7 @@ pub struct Fields {
     pub sender: u8,
     pub view: u32,
     pub ballot: u32,
-    pub proven: u32,
+    pub proven_ballot: u32,
     pub mask: u16,
     pub n: u8,
     pub m: u8,
@@ -29,7 +29,7 @@ pub struct Fields {
 impl Fields {
     /// A kind and its sender; everything else is 0.
     pub fn of(kind: u8, sender: u8) -> Fields {
-        Fields { kind, sender, view: 0, ballot: 0, proven: 0, mask: 0, n: 0, m: 0 }
+        Fields { kind, sender, view: 0, ballot: 0, proven_ballot: 0, mask: 0, n: 0, m: 0 }
     }
 
     /// Which fields besides the sender the kind uses; None for no kind.
@@ -37,7 +37,7 @@ impl Fields {
         let none = Used::default();
         let used = match kind {
             P1A | FAST => Used { view: true, ballot: true, ..none },
-            P1B => Used { ballot: true, proven: true, mask: true, n: true, m: true, ..none },
+            P1B => Used { ballot: true, proven_ballot: true, mask: true, n: true, m: true, ..none },
             PROPOSE => Used { ballot: true, n: true, ..none },
             P2A | VERIFY => Used { view: true, ballot: true, n: true, ..none },
             P2B => Used { ballot: true, mask: true, n: true, ..none },
@@ -53,7 +53,7 @@ impl Fields {
         let used = Fields::used(self.kind).unwrap_or_default();
         (used.view || self.view == 0)
             && (used.ballot || self.ballot == 0)
-            && (used.proven || self.proven == 0)
+            && (used.proven_ballot || self.proven_ballot == 0)
             && (used.mask || self.mask == 0)
             && (used.n || self.n == 0)
             && (used.m || self.m == 0)
@@ -65,7 +65,7 @@ impl Fields {
 pub struct Used {
     pub view: bool,
     pub ballot: bool,
-    pub proven: bool,
+    pub proven_ballot: bool,
     pub mask: bool,
     pub n: bool,
     pub m: bool,
@@ -110,7 +110,7 @@ fn fields(b: &[u8]) -> Fields {
         sender: b[1],
         view: four(2),
         ballot: four(6),
-        proven: four(10),
+        proven_ballot: four(10),
         mask: u16::from_be_bytes([b[14], b[15]]),
         n: b[16],
         m: b[17],
@@ -157,7 +157,7 @@ pub fn encode(f: &Fields, commands: &[Command]) -> Vec<u8> {
     let mut bytes = vec![f.kind, f.sender];
     bytes.extend(f.view.to_be_bytes());
     bytes.extend(f.ballot.to_be_bytes());
-    bytes.extend(f.proven.to_be_bytes());
+    bytes.extend(f.proven_ballot.to_be_bytes());
     bytes.extend(f.mask.to_be_bytes());
     bytes.extend([f.n, f.m]);
     for c in commands {

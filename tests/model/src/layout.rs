@@ -77,7 +77,7 @@ pub struct ViewChangeOutcome {
 }
 
 /// An acceptor's state; its view is the one of the view-change record.
-/// `certified` and `certificate` are the ballot and the mask of `proven`.
+/// `proven_ballot` and `certificate` are the ballot and the mask of `proven`.
 #[repr(C)]
 #[derive(Clone, PartialEq, Eq)]
 pub struct Acceptor {
@@ -86,7 +86,7 @@ pub struct Acceptor {
     pub signed: u8,
     pub held: History,
     pub proven: History,
-    pub certified: u32,
+    pub proven_ballot: u32,
     pub certificate: u16,
     pub verified: Table,
 }
@@ -185,7 +185,7 @@ impl Acceptor {
             signed: 0,
             held: History::empty(),
             proven: History::empty(),
-            certified: 0,
+            proven_ballot: 0,
             certificate: 0,
             verified: Table::empty(),
         }

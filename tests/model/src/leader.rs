@@ -56,7 +56,7 @@ pub fn complete(r: &Roster, s: &Leader) -> bool {
 fn proof_good(r: &Roster, f: &Fields) -> bool {
     match f.kind {
         PROPOSE => true,
-        P1B if f.n == 0 => f.proven == 0 && f.mask == 0,
+        P1B if f.n == 0 => f.proven_ballot == 0 && f.mask == 0,
         _ => !bit_outside(r, f.mask) && f.mask.count_ones() >= quorum(r),
     }
 }

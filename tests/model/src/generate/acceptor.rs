@@ -52,7 +52,7 @@ impl Scenario {
             _ => m.grown(rng, commands(&s.proven)),
         };
         set_history(&mut s.held, &held);
-        s.certified = if rng.percent(50) { s.ballot } else { number(rng) };
+        s.proven_ballot = if rng.percent(50) { s.ballot } else { number(rng) };
         s.certificate = lent_mask(rng, &self.run.roster, self.run.quorum());
         let agreeing = rng.between(10, 100);
         for site in 0..self.run.sites() {
@@ -192,7 +192,7 @@ impl Scenario {
             _ => Vec::new(),
         };
         set_history(&mut s.proven, &proven);
-        s.certified = if rng.percent(50) { s.ballot } else { number(rng) };
+        s.proven_ballot = if rng.percent(50) { s.ballot } else { number(rng) };
     }
 
     /// A state in which the new ballot's P1B is as long as can be, or nearly.

@@ -169,7 +169,7 @@ impl Scenario {
     ) -> Draft {
         let mut fields = Fields { ballot: s.ballot, ..Fields::of(P1B, sender) };
         if !proven.is_empty() {
-            fields.proven = number(rng);
+            fields.proven_ballot = number(rng);
             fields.mask = good_mask(rng, &self.run.roster, self.run.quorum());
         }
         Draft { second: held, ..Draft::new(fields, proven) }
@@ -325,11 +325,11 @@ impl Scenario {
         let f = &mut draft.fields;
         if f.kind == P1B && draft.first.is_empty() {
             match rng.below(4) {
-                0 => f.proven = number(rng).max(1),
+                0 => f.proven_ballot = number(rng).max(1),
                 1 => f.mask = bad_mask(rng, &self.run.roster, self.run.quorum()),
                 2 => f.mask = good_mask(rng, &self.run.roster, self.run.quorum()),
                 _ => {
-                    f.proven = number(rng).max(1);
+                    f.proven_ballot = number(rng).max(1);
                     f.mask = good_mask(rng, &self.run.roster, self.run.quorum());
                 }
             }

@@ -18,7 +18,7 @@ fn set_unused(rng: &mut Rng, f: &mut Fields) {
         match at % 6 {
             0 if !used.view => f.view = large,
             1 if !used.ballot => f.ballot = large,
-            2 if !used.proven => f.proven = large,
+            2 if !used.proven_ballot => f.proven_ballot = large,
             3 if !used.mask => f.mask = bits,
             4 if !used.n => f.n = small,
             5 if !used.m => f.m = small,
@@ -57,8 +57,8 @@ fn other_kind(rng: &mut Rng, good: &Fields, h: &[Command], pool: &[Command]) -> 
     if used.ballot {
         f.ballot = good.ballot;
     }
-    if used.proven {
-        f.proven = rng.pick(&[0, 1, good.ballot]);
+    if used.proven_ballot {
+        f.proven_ballot = rng.pick(&[0, 1, good.ballot]);
     }
     if used.mask {
         f.mask = if good.mask == 0 { rng.next() as u16 } else { good.mask };

@@ -170,7 +170,7 @@ fn tally_verify(tally: &mut Tally, call: &Call, frame: &Frame, want: &AcceptorOu
         tally.count(VERIFIED[5]);
     } else if !extends(h, proven) {
         tally.count(VERIFIED[11]);
-    } else if proven == h && s.certified == s.ballot {
+    } else if proven == h && s.proven_ballot == s.ballot {
         tally.count(VERIFIED[9]);
     } else {
         tally.count(if ones == least { VERIFIED[6] } else { VERIFIED[7] });
@@ -357,8 +357,8 @@ impl Role for AcceptorRole {
         print_record(&call.views);
         let s = &call.state;
         println!(
-            "state lent: ballot {}, fast {}, signed {}, certified {}, certificate {:04x}",
-            s.ballot, s.fast, s.signed, s.certified, s.certificate
+            "state lent: ballot {}, fast {}, signed {}, proven_ballot {}, certificate {:04x}",
+            s.ballot, s.fast, s.signed, s.proven_ballot, s.certificate
         );
         print_history("held", &s.held);
         print_history("proven", &s.proven);
@@ -374,7 +374,7 @@ fn differ_state(want: &Acceptor, got: &Acceptor) {
     differ("signed", want.signed, got.signed);
     differ_history("held", &want.held, &got.held);
     differ_history("proven", &want.proven, &got.proven);
-    differ("certified", want.certified, got.certified);
+    differ("proven_ballot", want.proven_ballot, got.proven_ballot);
     differ("certificate", want.certificate, got.certificate);
     differ_table("entry", &want.verified, &got.verified);
 }

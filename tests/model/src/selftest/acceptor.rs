@@ -85,7 +85,7 @@ fn first_vote() {
     let s = silent(&s, &line(VERIFY, 0, 0, 1, &[A]));
     let (s, sent) = accepted(&s, &line(VERIFY, 1, 0, 1, &[A]));
     assert_eq!(sent, b"0702000000000000000100000000000701000101000100070000\n");
-    assert_eq!((commands(&s.proven), s.certified, s.certificate), (&[A][..], 1, 7));
+    assert_eq!((commands(&s.proven), s.proven_ballot, s.certificate), (&[A][..], 1, 7));
     // Already proven in this ballot.
     let s = silent(&s, &line(VERIFY, 3, 0, 1, &[A]));
     assert_eq!((entry(&s.verified, 3), s.certificate), (&[A][..], 7));
@@ -99,9 +99,9 @@ fn first_vote() {
     assert_eq!(sent, write(fields, &[A, C], &[]));
     // The next ballot's report.
     let (s, sent) = accepted(&s, &line(P1A, 0, 0, 5, &[]));
-    let fields = Fields { ballot: 5, proven: 1, mask: 0b1101, ..Fields::of(P1B, OWN) };
+    let fields = Fields { ballot: 5, proven_ballot: 1, mask: 0b1101, ..Fields::of(P1B, OWN) };
     assert_eq!(sent, write(fields, &[A, C], &[A, C]));
-    assert_eq!((s.ballot, s.signed, s.certified), (5, 0, 1));
+    assert_eq!((s.ballot, s.signed, s.proven_ballot), (5, 0, 1));
     assert!(s.verified == Table::empty());
 }
 
@@ -122,7 +122,7 @@ fn own_completes() {
 /// P1A and FAST.
 fn opening() {
     let mut s = classic(4, 9, &[A, C], &[A]);
-    s.certified = 3;
+    s.proven_ballot = 3;
     s.certificate = 0b1011;
     s.verified.words = [u64::MAX; 512];
     store(&mut s.verified, 1, &[A]);
@@ -130,7 +130,8 @@ fn opening() {
     assert!(silent(&s, &line(FAST, 0, 0, 6, &[])) == opened);
     let (after, sent) = accepted(&opened, &line(P1A, 0, 0, u32::MAX, &[]));
     assert!(after == Acceptor { fast: 0, ballot: u32::MAX, ..opened.clone() });
-    let fields = Fields { ballot: u32::MAX, proven: 3, mask: 0b1011, ..Fields::of(P1B, OWN) };
+    let fields =
+        Fields { ballot: u32::MAX, proven_ballot: 3, mask: 0b1011, ..Fields::of(P1B, OWN) };
     assert_eq!(sent, write(fields, &[A], &[A, C]));
     assert_eq!(refused(&opened, &line(P1A, 0, 0, 6, &[])), STALE);
     assert_eq!(refused(&opened, &line(FAST, 0, 0, 5, &[])), STALE);
@@ -232,10 +233,10 @@ fn verifying() {
     // Proven in an earlier ballot: once more.
     let mut again = s.clone();
     again.proven = stored(&[A]);
-    again.certified = 1;
+    again.proven_ballot = 1;
     again.certificate = 0b0111;
     let (voted, sent) = accepted(&again, &line(VERIFY, 2, 0, 2, &[A]));
-    assert_eq!((sent, voted.certified), (vote(2, 0b1110, &[A]), 2));
+    assert_eq!((sent, voted.proven_ballot), (vote(2, 0b1110, &[A]), 2));
     // Doesn't extend the proven one: stored, and nothing goes out.
     for proven in [&[B][..], &[A, C], &[D]] {
         let mut behind = s.clone();

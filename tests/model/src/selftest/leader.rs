@@ -216,8 +216,8 @@ fn reports() {
     silent(&Leader { classic: 200, ..s.clone() }, &report(0, 5, &[], &[]));
     assert_eq!(refuses(&s, &report(4, 9, &[], &[])), SENDER);
 
-    let with = |proven: u32, mask: u16, h: &[Command]| {
-        let fields = Fields { ballot: 5, proven, mask, ..Fields::of(P1B, 0) };
+    let with = |proven_ballot: u32, mask: u16, h: &[Command]| {
+        let fields = Fields { ballot: 5, proven_ballot, mask, ..Fields::of(P1B, 0) };
         write(fields, h, &[])
     };
     assert_eq!(refuses(&s, &with(1, 0, &[])), PROOF);

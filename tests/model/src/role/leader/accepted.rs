@@ -138,7 +138,7 @@ pub fn tally_report(tally: &mut Tally, call: &Call, frame: &Frame) {
     tally.count_if(f.n == 0 && nothing_held, REPORTED[2]);
     tally.count_if(f.n != 0 && nothing_held, REPORTED[3]);
     tally.count_if(f.mask.count_ones() > quorum(r), REPORTED[4]);
-    tally.count_if(f.proven > f.ballot, REPORTED[5]);
+    tally.count_if(f.proven_ballot > f.ballot, REPORTED[5]);
     tally.count_if(f.n == 32 && f.m == 32, REPORTED[6]);
     tally.count_if(f.sender == call.given.own, REPORTED[7]);
     let over = shorter(&frame.first, &s.proven) && shorter(&frame.second, &s.held);

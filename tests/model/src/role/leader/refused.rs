@@ -186,9 +186,9 @@ pub fn tally_proof(tally: &mut Tally, call: &Call, f: &Fields) {
     let r = &call.given.roster;
     if f.kind == P1B && f.n == 0 {
         tally.count_if(f.mask == 0, PROOFS[6]);
-        tally.count_if(f.proven == 0, PROOFS[7]);
+        tally.count_if(f.proven_ballot == 0, PROOFS[7]);
         let enough = f.mask.count_ones() >= quorum(r) && !bit_outside(r, f.mask);
-        return tally.count_if(f.proven != 0 && enough, PROOFS[8]);
+        return tally.count_if(f.proven_ballot != 0 && enough, PROOFS[8]);
     }
     let first = if f.kind == LEADER { 0 } else { 3 };
     let below = (0..r.n).filter(|&i| f.mask & bit(i) != 0).count() as u32;
