@@ -20,8 +20,9 @@ use Rattle.merge.specs.Merge.{appended, appendedIn}
 use Rattle.merge.specs.Appending.{overflows}
 use Rattle.merge.specs.AppendingLaws.{appended-in-work, take-appended, append-bound}
 use Rattle.table.specs.declared.Table.{Table}
+use Rattle.table.specs.Table.{rowOf}
 use Rattle.refusal.specs.declared.Refusal.{Refusal}
-use Rattle.refusal.specs.declared.Refusal.the-variants.{Config, Full}
+use Rattle.refusal.specs.declared.Refusal.the-variants.{Config, Contradiction, Full}
 use Rattle.refusal.specs.declared.Answer.{Answer}
 use Rattle.refusal.specs.declared.Answer.the-variants.{Accepted}
 use Rattle.refusal.specs.Refusal.{isRefused}
@@ -123,9 +124,9 @@ module _ (r : Roster) (own : ℕ) (v : ViewRecord) (s : State) (m : Frame) where
       rw (or-left (eqb (m .kind) 1) _ n, or-right (eqb (m .kind) 1) _ n, or-left (eqb (m .kind) 4) _ e, or-right (eqb (m .kind) 4) _ e)
 
 -- what it asks to sign has at most 32 commands
-pub asked-short : (r : Roster) (n kind : ℕ) (held w : List ℕ) → Performable r n kind held (take n w) → length (asked (eqb kind 4) held (take n w)) ≤ 32
+pub asked-short : (r : Roster) (n kind : ℕ) (held entry w : List ℕ) → Performable r n kind held entry (take n w) → length (asked (eqb kind 4) held (take n w)) ≤ 32
 unfolding lengthened
-asked-short r n kind held w p = go (eqb kind 4) (p .fits)
+asked-short r n kind held entry w p = go (eqb kind 4) (p .fits)
   where
     go : (b : Bool) → (b ≡ true → length (appended held (take n w)) ≤ 32) → length (asked b held (take n w)) ≤ 32
     go true f = rw canonical-length (f refl)
@@ -153,7 +154,7 @@ module _ (r : Roster) (own : ℕ) (v : ViewRecord) (s : State) (line out : List 
       (subst (λ (a : Reading). Done (accepted (kindOf (a .frame .kind)) r own v s (a .frame)) out o l) f d)
 
   -- what the effect needs: no rule holds
-  pub performable : t ≡ false → Performable r (head .n) (head .kind) (heldOf s) (take (head .n) w)
+  pub performable : t ≡ false → Performable r (head .n) (head .kind) (heldOf s) (rowOf (s .verified) (head .sender)) (take (head .n) w)
   unfolding config testOf overflows
   performable h =
       let m = frameWith head w in
@@ -163,4 +164,6 @@ module _ (r : Roster) (own : ℕ) (v : ViewRecord) (s : State) (line out : List 
         few-sites = valid-figures r (seated-is r own (length out) (and-left (seated r own (length out)) _ (not-false _ fit)) .roster) .max-sites;
         short = rw (ap (λ (o : Reading). o .frame .n) f) (read-n limit line taken);
         fits = λ k. ltb-false 32 _ (no-test (rw (eqb-true (head .kind) 4 k) at none) Full);
+        agrees = λ n e.
+            no-test (rw (or-left (eqb (head .kind) 1) _ n, or-right (eqb (head .kind) 1) _ n, or-left (eqb (head .kind) 4) _ e, or-right (eqb (head .kind) 4) _ e) at none) Contradiction;
       }

@@ -11,15 +11,15 @@ use Rattle.roster.specs.Roster.{quorum, leaderOf}
 use Rattle.roster.specs.Counts.{sameView, sameBallot, laterBallot}
 use Rattle.roster.specs.Mask.{reaches, beyond}
 use Rattle.roster.specs.Sites.{maskTo}
+use Rattle.history.specs.declared.History.{History}
 use Rattle.history.specs.History.{canonical, equal, extends}
 use Rattle.history.specs.Words.{limit, commands, stored, validStored}
 use Rattle.merge.specs.Merge.{appended}
-use Rattle.merge.specs.Appending.{reuses, nothingNew, overflows}
 use Rattle.table.specs.declared.Table.{Table}
 use Rattle.table.specs.Table.{rowOf, storedAt, emptyTable, validTable}
-use Rattle.refusal.specs.declared.Refusal.the-variants.{Config, Form, Sender, Stale, Behind, Reused, Contradiction, Nothing, Full}
+use Rattle.refusal.specs.declared.Refusal.the-variants.{Config, Form, Sender, Stale, Behind, Contradiction}
 use Rattle.refusal.specs.Rules.{Rule, _gives_, judged}
-use Rattle.content.specs.Content.{historyRules, requestRules, contradicts}
+use Rattle.content.specs.Content.{historyRules, requestRules, appendRules, contradicts}
 use Rattle.frame.specs.declared.Frame.{Frame}
 use Rattle.frame.specs.Layout.{first}
 use Rattle.frame.specs.Format.{readingOf, malformed}
@@ -33,20 +33,6 @@ use Rattle.acceptor.specs.declared.Outcome.{Outcome}
 
 -- ---- the state
 
--- "Fresh: all 0 and empty."
-abbrev pub fresh : State
-fresh =
-    record {
-      ballot = record { 0 = 0 };
-      fast = 0;
-      signed = 0;
-      held = stored [];
-      proven = stored [];
-      «proven_ballot» = record { 0 = 0 };
-      certificate = 0;
-      verified = emptyTable;
-    }
-
 -- what is held and what is proven, as lists
 abbrev pub heldOf : State → List ℕ
 heldOf s = commands (s .held)
@@ -54,9 +40,28 @@ heldOf s = commands (s .held)
 abbrev pub provenOf : State → List ℕ
 provenOf s = commands (s .proven)
 
--- what a state has beside its histories and its table
+-- what a state has beside its histories and its table, and the state with these marks, what is held, what is proven and the table
 abbrev pub marksOf : State → Marks
 marksOf s = record { ballot = s .ballot; fast = s .fast; signed = s .signed; «proven_ballot» = s .«proven_ballot»; certificate = s .certificate }
+
+abbrev pub stateWith : Marks → History → History → Table → State
+stateWith k held proven verified =
+    record {
+      ballot = k .ballot;
+      fast = k .fast;
+      signed = k .signed;
+      held = held;
+      proven = proven;
+      «proven_ballot» = k .«proven_ballot»;
+      certificate = k .certificate;
+      verified = verified;
+    }
+
+-- "Fresh: all 0 and empty."
+abbrev pub fresh : State
+fresh =
+    stateWith (record { ballot = record { 0 = 0 }; fast = 0; signed = 0; «proven_ballot» = record { 0 = 0 }; certificate = 0 }) (stored []) (stored [])
+    emptyTable
 
 -- the last VERIFY of a frame's sender
 abbrev pub entryOf : State → Frame → List ℕ
@@ -101,16 +106,7 @@ openingRules r view k m =
 -- "Takes the ballot, forgets the VERIFY table and that it signed."
 abbrev pub inBallot : State → Ballot → ℕ → State
 inBallot s ballot fast =
-    record {
-      ballot = ballot;
-      fast = fast;
-      signed = 0;
-      held = s .held;
-      proven = s .proven;
-      «proven_ballot» = s .«proven_ballot»;
-      certificate = s .certificate;
-      verified = emptyTable;
-    }
+    stateWith (record { ballot = ballot; fast = fast; signed = 0; «proven_ballot» = s .«proven_ballot»; certificate = s .certificate }) (s .held) (s .proven) emptyTable
 
 -- P1B, with the proven history, its ballot and mask, and the held one
 abbrev pub p1b : ℕ → State → Ballot → Frame
@@ -128,16 +124,8 @@ verify own v s h = message 6 own (v .view) (s .ballot) (record { 0 = 0 }) 0 h []
 
 abbrev pub signing : ℕ → State → List ℕ → State
 signing own s h =
-    record {
-      ballot = s .ballot;
-      fast = s .fast;
-      signed = 1;
-      held = stored h;
-      proven = s .proven;
-      «proven_ballot» = s .«proven_ballot»;
-      certificate = s .certificate;
-      verified = storedAt (s .verified) own h;
-    }
+    stateWith (record { ballot = s .ballot; fast = s .fast; signed = 1; «proven_ballot» = s .«proven_ballot»; certificate = s .certificate }) (stored h)
+    (s .proven) (storedAt (s .verified) own h)
 
 -- "It becomes held; answers VERIFY, which replaces its own entry but proves nothing yet."
 unfoldable pub sign : ℕ → ViewRecord → State → List ℕ → Reply State
@@ -171,10 +159,7 @@ abbrev pub proposeRules : Marks → List ℕ → List ℕ → Frame → List ℕ
 proposeRules k held proven m h =
     proposeHeading k m
     ++ (requestRules (m .sender) h
-    ++ (not (extends held proven) gives Behind ∷
-    reuses held h gives Reused ∷
-    nothingNew held h gives Nothing ∷
-    overflows limit held h gives Full ∷ []))
+    ++ (not (extends held proven) gives Behind ∷ appendRules limit held h))
 
 -- "Commands not held are appended, result canonical; answers VERIFY as above."
 unfoldable pub lengthened : List ℕ → List ℕ → List ℕ
@@ -208,30 +193,11 @@ proves r s t h = convinces r (marksOf s) (provenOf s) (certificateOf r t h) h
 
 -- the state with the table, and that in which h is proven
 abbrev pub storing : State → Table → State
-storing s t =
-    record {
-      ballot = s .ballot;
-      fast = s .fast;
-      signed = s .signed;
-      held = s .held;
-      proven = s .proven;
-      «proven_ballot» = s .«proven_ballot»;
-      certificate = s .certificate;
-      verified = t;
-    }
+storing s t = stateWith (marksOf s) (s .held) (s .proven) t
 
 abbrev pub proving : State → Table → ℕ → List ℕ → State
 proving s t mask h =
-    record {
-      ballot = s .ballot;
-      fast = s .fast;
-      signed = s .signed;
-      held = s .held;
-      proven = stored h;
-      «proven_ballot» = s .ballot;
-      certificate = mask;
-      verified = t;
-    }
+    stateWith (record { ballot = s .ballot; fast = s .fast; signed = s .signed; «proven_ballot» = s .ballot; certificate = mask }) (s .held) (stored h) t
 
 -- P2B of h in the present ballot, with the mask of its certificate
 abbrev pub p2b : ℕ → State → ℕ → List ℕ → Frame

@@ -7,20 +7,11 @@ use Rattle.acceptor.specs.declared.State.{State}
 use Rattle.acceptor.specs.declared.Outcome.{Outcome}
 use Rattle.acceptor.specs.declared.Settled.{Settled}
 use Rattle.acceptor.specs.declared.Marks.{Marks}
+use Rattle.acceptor.specs.Acceptor.{stateWith}
 
 -- the state of its parts: the marks, the words and the count of what is held and of what is proven, the words and the counts of the table
 abbrev pub stateOf : Marks → List ℕ → ℕ → List ℕ → ℕ → List ℕ → List ℕ → State
-stateOf k held n proven m words counts =
-    record {
-      ballot = k .ballot;
-      fast = k .fast;
-      signed = k .signed;
-      held = historyOf held n;
-      proven = historyOf proven m;
-      «proven_ballot» = k .«proven_ballot»;
-      certificate = k .certificate;
-      verified = tableOf words counts;
-    }
+stateOf k held n proven m words counts = stateWith k (historyOf held n) (historyOf proven m) (tableOf words counts)
 
 -- the outcome of a call in place, of what it gives and of the parts that it leaves
 abbrev pub outcomeOf : Settled → List ℕ → ℕ → List ℕ → ℕ → List ℕ → List ℕ → Outcome

@@ -214,7 +214,7 @@ fn perform(
     counts: &mut [u8; 16],
     out: &mut [u8],
 ) -> Settled
-    requires { ⌜ effects.Performable r (head .n) (head .kind) (take (now «held_count») (now held)) (take (head .n) (now buf)) ⌝ }
+    requires { ⌜ effects.Performable r (head .n) (head .kind) (take (now «held_count») (now held)) (row (now words) (now counts) (head .sender)) (take (head .n) (now buf)) ⌝ }
     ensures { λ o. ⌜ effects.Done (spec.accepted (spec.kindOf (head .kind)) r own v (parts.stateOf marks (now (held .entry)) (now («held_count» .entry)) (now (proven .entry)) (now («proven_count» .entry)) (now (words .entry)) (now (counts .entry))) (frameWith head (now (buf .entry)))) (now (out .entry)) (parts.outcomeOf o (now (held .exit)) (now («held_count» .exit)) (now (proven .exit)) (now («proven_count» .exit)) (now (words .exit)) (now (counts .exit))) (now (out .exit)) ⌝ }
 {
     let fast = head.kind == FAST;

@@ -49,22 +49,10 @@ pub(crate) fn check<'a>(
         return commands;
     }
     let lags = !history::extends(held, proven);
-    let reused = merge::reuses(held, h);
-    let nothing = merge::nothing_new(held, h);
-    let full = merge::overflows(words::LIMIT, held, h);
-    given(
-        lags,
-        Refusal::Behind,
-        given(
-            reused,
-            Refusal::Reused,
-            given(
-                nothing,
-                Refusal::Nothing,
-                given(full, Refusal::Full, Answer::Accepted),
-            ),
-        ),
-    )
+    if lags {
+        return Answer::Refused(Refusal::Behind);
+    }
+    content::appendable(words::LIMIT, held, h)
 }
 
 // Writes what is held over the first n words of buf, with those of them that are new appended, and answers how many words that is.

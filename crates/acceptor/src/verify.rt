@@ -1,11 +1,11 @@
 // VERIFY: it is stored, and if a quorum of sites verified its history, that is proven.
-ghost use mathlib.Core.Bool.{cond};
+ghost use mathlib.Core.Bool.{false};
 ghost use mathlib.Core.List.{[]};
 ghost use mathlib.Core.Path.{_≡_};
 ghost use Prim.Native.Nat.{_≤_};
 ghost use lib.ListN.{length};
 ghost use Rattle.roster.specs.Sites.{maskTo};
-ghost use Rattle.history.specs.History.{extends};
+ghost use Rattle.content.specs.Content.{contradicts};
 ghost use Rattle.table.specs.Table.{row, storedAt, tableOf};
 ghost use Rattle.refusal.specs.Rules.{answer};
 ghost use Rattle.frame.specs.Format.{frameWith};
@@ -154,7 +154,8 @@ fn store(
     }
 }
 
-// Stores h as the entry of a site if it extends the present one; else nothing is done.
+// Stores h as the entry of a site if it extends the present one, which it does if it is not shorter, since neither contradicts the other; else
+// nothing is done.
 pub(crate) fn perform(
     r: Roster,
     own: u8,
@@ -169,13 +170,14 @@ pub(crate) fn perform(
     counts: &mut [u8; 16],
     out: &mut [u8],
 ) -> Settled
-    requires { ⌜ (r .n ≤ 16) × (length (now h) ≤ 32) ⌝ }
+    requires { ⌜ (r .n ≤ 16) × (length (now h) ≤ 32) × (contradicts (row (now words) (now counts) site) (now h) ≡ false) ⌝ }
     ensures { λ o. ⌜ effects.Done (spec.verifying r own (parts.stateOf marks (now (held .entry)) «held_count» (now (proven .entry)) (now («proven_count» .entry)) (now (words .entry)) (now (counts .entry))) site (now (h .entry))) (now (out .entry)) (parts.outcomeOf o (now (held .entry)) «held_count» (now (proven .exit)) (now («proven_count» .exit)) (now (words .exit)) (now (counts .exit))) (now (out .exit)) ⌝ }
 {
     let lengths: &[u8] = counts;
     let entries: &[u64] = words;
-    let newer = history::extends(h, table::row(entries, lengths, site as usize));
-    if !newer {
+    let entry = table::row(entries, lengths, site as usize);
+    let older = h.len() < entry.len();
+    if older {
         return silent(marks, Answer::Accepted);
     }
     store(

@@ -1,6 +1,8 @@
-// The checks of the commands that a frame carries, which the roles share: COMMAND and HISTORY, and CONTRADICTION. A refusal by COMMAND is answered
-// before the commands are compared with each other, which is the dear part.
+// The checks of the commands that a frame carries, which the roles share: COMMAND and HISTORY; REUSED, NOTHING and FULL; CONTRADICTION. A refusal by
+// COMMAND is answered before the commands are compared with each other, which is the dear part.
 ghost use mathlib.Core.Path.{_≡_};
+ghost use Prim.Native.Nat.{min};
+ghost use Rattle.words.specs.Sizes.{capacity};
 ghost use Rattle.refusal.specs.Rules.{answer};
 ghost use Rattle.content.specs.Content as spec;
 use refusal::Answer;
@@ -52,6 +54,23 @@ pub fn reported(proven: &[u64], held: &[u64]) -> Answer
     }
     let improper = disordered(proven) | disordered(held);
     given(improper, Refusal::History, Answer::Accepted)
+}
+
+// The answer to new commands h by the list that they are appended to, under a limit; one over 32 counts as 32. Each test reads all of the list, so
+// each is a tier of its own.
+pub fn appendable<'a>(limit: u8, list: &'a [u64], h: &'a [u64]) -> Answer
+    ensures { λ a. ⌜ a ≡ answer (spec.appendRules (min limit capacity) (now (list .entry)) (now (h .entry))) ⌝ }
+{
+    let reused = merge::reuses(list, h);
+    if reused {
+        return Answer::Refused(Refusal::Reused);
+    }
+    let nothing = merge::nothing_new(list, h);
+    if nothing {
+        return Answer::Refused(Refusal::Nothing);
+    }
+    let full = merge::overflows(limit, list, h);
+    given(full, Refusal::Full, Answer::Accepted)
 }
 
 // Whether neither of a site's entry and h extends the other, of lists of at most 64 commands: a longer one extends nothing here.

@@ -16,13 +16,12 @@ use Rattle.history.specs.History.{repeated}
 use Rattle.words.specs.Sizes.{limit}
 use Rattle.history.specs.Words.{commands, stored}
 use Rattle.merge.specs.Merge.{appended}
-use Rattle.merge.specs.Appending.{reuses, nothingNew, overflows}
 use Rattle.table.specs.declared.Table.{Table}
 use Rattle.table.specs.Table.{storedAt, emptyTable, validTable}
 use Rattle.proposal.specs.Proposal.{report, proposal, remaining}
-use Rattle.refusal.specs.declared.Refusal.the-variants.{Config, Form, Sender, Stale, Proof, Reused, Nothing, Full}
+use Rattle.refusal.specs.declared.Refusal.the-variants.{Config, Form, Sender, Stale, Proof}
 use Rattle.refusal.specs.Rules.{Rule, _gives_, judged}
-use Rattle.content.specs.Content.{requestRules, reportRules}
+use Rattle.content.specs.Content.{requestRules, reportRules, appendRules}
 use Rattle.frame.specs.declared.Frame.{Frame}
 use Rattle.frame.specs.Layout.{first, second}
 use Rattle.frame.specs.Format.{readingOf, malformed}
@@ -32,19 +31,6 @@ use Rattle.site.specs.Reply.{silent, sends, Reply, refuse, accept, sendsIf, len
 use Rattle.leader.specs.declared.State.{State}
 use Rattle.leader.specs.declared.Marks.{Marks}
 use Rattle.leader.specs.declared.Outcome.{Outcome}
-
--- "fresh: 0, none, empty"
-abbrev pub fresh : State
-fresh =
-    record {
-      view = record { 0 = 0 };
-      ballot = record { 0 = 0 };
-      classic = 0;
-      pending = stored [];
-      reported = 0;
-      proven = emptyTable;
-      held = emptyTable;
-    }
 
 -- ---- the frames that a leader takes
 
@@ -65,12 +51,20 @@ taken = 1048
 abbrev pub received : List ℕ → Frame
 received line = readingOf limit line taken .frame
 
--- the pending commands as a list, and what the checks after CONFIG read of a state beside them
+-- the pending commands as a list, what a state has beside its lists, and the state with these marks, pending commands and reports
 abbrev pub pendingOf : State → List ℕ
 pendingOf s = commands (s .pending)
 
 abbrev pub marksOf : State → Marks
 marksOf s = record { view = s .view; ballot = s .ballot; classic = s .classic; reported = s .reported }
+
+abbrev pub stateWith : Marks → History → Table → Table → State
+stateWith k pending proven held =
+    record { view = k .view; ballot = k .ballot; classic = k .classic; pending = pending; reported = k .reported; proven = proven; held = held }
+
+-- "fresh: 0, none, empty"
+abbrev pub fresh : State
+fresh = stateWith (record { view = record { 0 = 0 }; ballot = record { 0 = 0 }; classic = 0; reported = 0 }) (stored []) emptyTable emptyTable
 
 -- ---- the refusals: "Checks run in this order; the first that applies is given."
 
@@ -101,14 +95,9 @@ leaderRules r own k m = leb (r .n) (m .sender) gives Sender ∷ not (leads r own
 abbrev pub proposeHeading : Frame → List Rule
 proposeHeading m = eqb (m .sender) 0 gives Sender ∷ []
 
--- "REUSED, NOTHING and FULL are read against pending (at most 32)"
-abbrev pub pendingRules : List ℕ → List ℕ → List Rule
-pendingRules pending h =
-    reuses pending h gives Reused ∷ nothingNew pending h gives Nothing ∷ overflows limit pending h gives Full ∷ []
-
--- PROPOSE with the commands h, with any ballot
+-- PROPOSE with the commands h, with any ballot: "REUSED, NOTHING and FULL are read against pending (at most 32)"
 abbrev pub proposeRules : List ℕ → Frame → List ℕ → List Rule
-proposeRules pending m h = proposeHeading m ++ (requestRules (m .sender) h ++ pendingRules pending h)
+proposeRules pending m h = proposeHeading m ++ (requestRules (m .sender) h ++ appendRules limit pending h)
 
 -- "P1B must be for the open classic ballot, the first from its site, and before N-f came, else STALE."
 unfoldable pub awaited : Roster → Marks → Ballot → ℕ → Bool
@@ -147,23 +136,15 @@ rules r own room s line =
 -- the state with another view, with other pending commands, and with one more report
 abbrev pub inView : State → View → State
 inView s view =
-    record { view = view; ballot = s .ballot; classic = s .classic; pending = s .pending; reported = s .reported; proven = s .proven; held = s .held }
+    stateWith (record { view = view; ballot = s .ballot; classic = s .classic; reported = s .reported }) (s .pending) (s .proven) (s .held)
 
 abbrev pub waiting : State → List ℕ → State
-waiting s pending =
-    record { view = s .view; ballot = s .ballot; classic = s .classic; pending = stored pending; reported = s .reported; proven = s .proven; held = s .held }
+waiting s pending = stateWith (marksOf s) (stored pending) (s .proven) (s .held)
 
 abbrev pub reporting : State → Frame → State
 reporting s m =
-    record {
-      view = s .view;
-      ballot = s .ballot;
-      classic = s .classic;
-      pending = s .pending;
-      reported = withSite (s .reported) (m .sender);
-      proven = storedAt (s .proven) (m .sender) (first m);
-      held = storedAt (s .held) (m .sender) (second m);
-    }
+    stateWith (record { view = s .view; ballot = s .ballot; classic = s .classic; reported = withSite (s .reported) (m .sender) }) (s .pending)
+    (storedAt (s .proven) (m .sender) (first m)) (storedAt (s .held) (m .sender) (second m))
 
 -- the history of site i's report in a table
 abbrev pub reportIn : State → Table → ℕ → List ℕ
@@ -205,15 +186,7 @@ openingRules r own room s ballot = config r own room s gives Config ∷ not (may
 -- "FAST or P1A goes out, and reports are forgotten"
 abbrev pub inBallot : View → Ballot → ℕ → History → State
 inBallot view ballot fast pending =
-    record {
-      view = view;
-      ballot = ballot;
-      classic = cond (isSet fast) 0 1;
-      pending = pending;
-      reported = 0;
-      proven = emptyTable;
-      held = emptyTable;
-    }
+    stateWith (record { view = view; ballot = ballot; classic = cond (isSet fast) 0 1; reported = 0 }) pending emptyTable emptyTable
 
 abbrev pub invitation : ℕ → View → Ballot → ℕ → Frame
 invitation own view ballot fast = message (cond (isSet fast) 2 1) own view ballot (record { 0 = 0 }) 0 [] []

@@ -7,19 +7,12 @@ use Rattle.leader.specs.declared.State.{State}
 use Rattle.leader.specs.declared.Marks.{Marks}
 use Rattle.leader.specs.declared.Settled.{Settled}
 use Rattle.leader.specs.declared.Outcome.{Outcome}
+use Rattle.leader.specs.Leader.{stateWith}
 
 -- the state of its parts: the marks, and the words and the counts of what is pending and of the two tables
 abbrev pub stateOf : Marks → List ℕ → ℕ → List ℕ → List ℕ → List ℕ → List ℕ → State
 stateOf k pending count proven provenCounts held heldCounts =
-    record {
-      view = k .view;
-      ballot = k .ballot;
-      classic = k .classic;
-      pending = historyOf pending count;
-      reported = k .reported;
-      proven = tableOf proven provenCounts;
-      held = tableOf held heldCounts;
-    }
+    stateWith k (historyOf pending count) (tableOf proven provenCounts) (tableOf held heldCounts)
 
 -- the outcome of a call in place, of what it gives and of the parts that it leaves
 abbrev pub outcomeOf : Settled → List ℕ → ℕ → List ℕ → List ℕ → List ℕ → List ℕ → Outcome

@@ -20,22 +20,6 @@ fn heading(head: Heading) -> Answer
     given(nobody, Refusal::Sender, Answer::Accepted)
 }
 
-// The answer to commands by what is pending. Each test reads all of it, so each is a tier of its own.
-fn against<'a>(pending: &'a [u64], h: &'a [u64]) -> Answer
-    ensures { λ a. ⌜ a ≡ answer (spec.pendingRules (now (pending .entry)) (now (h .entry))) ⌝ }
-{
-    let reused = merge::reuses(pending, h);
-    if reused {
-        return Answer::Refused(Refusal::Reused);
-    }
-    let nothing = merge::nothing_new(pending, h);
-    if nothing {
-        return Answer::Refused(Refusal::Nothing);
-    }
-    let full = merge::overflows(words::LIMIT, pending, h);
-    given(full, Refusal::Full, Answer::Accepted)
-}
-
 // The answer to a PROPOSE: the heading, then the commands, then what is pending.
 pub(crate) fn check<'a>(pending: &'a [u64], head: Heading, h: &'a [u64]) -> Answer
     ensures { λ a. ⌜ a ≡ answer (spec.proposeRules (now (pending .entry)) (frameWith head []) (now (h .entry))) ⌝ }
@@ -50,7 +34,7 @@ pub(crate) fn check<'a>(pending: &'a [u64], head: Heading, h: &'a [u64]) -> Answ
     if ends {
         return commands;
     }
-    against(pending, h)
+    content::appendable(words::LIMIT, pending, h)
 }
 
 // Appends to the pending commands those of h that are not there yet, up to 32, and leaves zeros after them.

@@ -24,7 +24,7 @@ use Rattle.merge.specs.declared.Merged.{Merged}
 use Rattle.table.specs.declared.Table.{Table}
 use Rattle.table.specs.Table.{rowOf, storedAt, storedIn}
 use Rattle.table.specs.TableLaws.{Sized, row-stored-other, stored-in}
-use Rattle.content.specs.Content.{contradicts}
+use Rattle.content.specs.ContentLaws as content
 use Rattle.refusal.specs.declared.Refusal.{Refusal}
 use Rattle.refusal.specs.declared.Refusal.the-variants.{Config, Sender, Contradiction}
 use Rattle.refusal.specs.declared.Answer.{Answer}
@@ -62,36 +62,12 @@ use Rattle.learner.specs.Code.Vote.{checks, Passed, concluded, stands}
 pub extends-is : (h g : List ℕ) (b : Bool) → length h ≤ 64 → b ≡ extendsWithin 64 h g → extends h g ≡ b
 extends-is h g b p e = sym (extends-within 64 h g p) ∙ sym e
 
--- a history that extends one that is not shorter is extended by it
-nothing : (l : List ℕ) → length l ≡ 0 → l ≡ []
-nothing [] z = refl
-nothing (c ∷ l) z = absurd (omega (arith, z))
-
-no-longer : {g h : List ℕ} → Extends h g → length h ≤ length g → Extends g h
-no-longer {g} {h} p l = extends-along (equivalent-sym whole) (extends-refl h)
-  where
-    whole : Equivalent g h
-    whole =
-        let none = nothing (p .x) (omega (arith, equivalent-length (p .equivalent), length-append g (p .x))) in
-        subst (λ (y : List ℕ). Equivalent y h) (ap (λ (y : List ℕ). g ++ y) none ∙ append-nil g) (p .equivalent)
-
 -- ---- a vote for h that passed the checks up to its merge
 
 module _ {t : Table} (z : Sized t) (site : ℕ) (h : List ℕ) (p : Passed (t .words) (t .counts) site h) where
   -- it extends the sender's entry exactly if it is not shorter
   pub newer-is : (b : Bool) → leb (length (rowOf t site)) (length h) ≡ b → extends h (rowOf t site) ≡ b
-  unfolding contradicts
-  newer-is b e = ⊎-elim longer shorter (true-or-false (extends h (rowOf t site)))
-    where
-      longer : extends h (rowOf t site) ≡ true → extends h (rowOf t site) ≡ b
-      longer f = f ∙ sym (le-leb (length (rowOf t site)) (length h) (extends-length (extends-sound h (rowOf t site) f))) ∙ e
-
-      shorter : extends h (rowOf t site) ≡ false → extends h (rowOf t site) ≡ b
-      shorter f =
-          let older : extends (rowOf t site) h ≡ true = not-false (extends (rowOf t site) h) (rw f at (p .agrees)) in
-          ⊎-elim (λ l. f ∙ sym (lt-leb (length (rowOf t site)) (length h) l) ∙ e)
-          (λ l. absurd (extends-refuted h (rowOf t site) f (no-longer (extends-sound (rowOf t site) h older) l)))
-          (lt-or-le (length h) (length (rowOf t site)))
+  newer-is = content.newer-is (rowOf t site) h (p .agrees)
 
   -- once the vote is in, the sender's entry extends it
   sender-stands : extends (rowOf (withVote t site h) site) h ≡ true

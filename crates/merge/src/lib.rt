@@ -102,14 +102,21 @@ pub fn nothing_new(g: &[u64], h: &[u64]) -> bool
     true
 }
 
-// Whether g with the commands of h appended that are not there yet is over the limit; one over 32 counts as 32.
+// Whether g with the commands of h appended that are not there yet is over the limit; one over 32 counts as 32. Where there is room for all of
+// them, nothing is looked up.
 pub fn overflows(limit: u8, g: &[u64], h: &[u64]) -> bool
     ensures { λ r. ⌜ r ≡ appending.overflows (min limit capacity) (now (g .entry)) (now (h .entry)) ⌝ }
 {
     let most = smaller(limit as usize, words::CAPACITY);
+    let m = g.len();
+    if m <= most {
+        let room = most - m;
+        if h.len() <= room {
+            return false;
+        }
+    }
     let mut work = [0u64; history::WORK];
     history::fill(&mut work, g);
-    let m = g.len();
     let n = append(&mut work, m, h);
     most < n
 }

@@ -1,8 +1,10 @@
 -- `acceptor::request::check` meets its contract: a tier that refuses is the answer, else the next tier is.
 -- Assumes nothing.
-use mathlib.Core.Path.{ap, sym}
+use mathlib.Core.Path.{ap, sym, _∙_}
 use mathlib.Core.Bool.{not}
-use Rattle.refusal.specs.AnswerLaws.{rule, no-rule, stops, goes-on}
+use Rattle.refusal.specs.declared.Answer.the-variants.{Accepted, Refused}
+use Rattle.refusal.specs.RulesLaws.{judged-first, judged-next}
+use Rattle.refusal.specs.AnswerLaws.{stops, goes-on}
 use Rattle.acceptor.proofs.Tests.{extends-is}
 use borrow.Author.Needs.{needs}
 use Rattle.acceptor.proofs.request.check.Statement.{statement}
@@ -30,34 +32,20 @@ returns-2 c =
 extends-requires : tie.Need-extends-requires
 extends-requires c κs = search needs
 
-reuses-requires : tie.Need-reuses-requires
-reuses-requires c κs = search needs
-
-nothing-new-requires : tie.Need-nothing-new-requires
-nothing-new-requires c κs = search needs
-
-overflows-requires : tie.Need-overflows-requires
-overflows-requires c κs = search needs
-
-given-requires : tie.Need-given-requires
-given-requires c κs = search needs
-
-given-requires-2 : tie.Need-given-requires-2
-given-requires-2 c κs = search needs
-
-given-requires-3 : tie.Need-given-requires-3
-given-requires-3 c κs = search needs
-
-given-requires-4 : tie.Need-given-requires-4
-given-requires-4 c κs = search needs
-
 returns-3 : tie.Need-returns-3
 returns-3 c =
-    goes-on _ _ (c .before .before .before .before .before .before .before .before .before .before .before .before .before .check-heading .ensures) (c .before .before .before .before .before .before .before .before .before .before .before .before .refuses .ensures) (c .before .before .before .before .before .before .before .before .before .before .before .if1 .left)
-    (goes-on _ _ (c .before .before .before .before .before .before .before .before .before .before .requested .ensures) (c .before .before .before .before .before .before .before .before .before .refuses2 .ensures) (c .before .before .before .before .before .before .before .before .if2 .left)
-    (rule _ _ (c .given4 .ensures) (ap not (sym (extends-is (c .before .before .before .before .before .before .before .before .before .before .before .before .before .before .before .before .before .args .held .now) (c .before .before .before .before .before .before .before .before .before .before .before .before .before .before .before .before .before .args .proven .now) _ (c .before .before .before .before .before .before .before .before .before .before .before .before .before .before .before .before .before .pre) (c .before .before .before .before .before .before .before .extends .ensures))))
-    (rule _ _ (c .before .given3 .ensures) (c .before .before .before .before .before .before .reuses .ensures)
-    (rule _ _ (c .before .before .given2 .ensures) (c .before .before .before .before .before .nothing-new .ensures) (rule _ _ (c .before .before .before .given .ensures) (c .before .before .before .before .overflows .ensures) no-rule)))))
+    goes-on _ _ (c .before .before .before .before .before .before .before .check-heading .ensures) (c .before .before .before .before .before .before .refuses .ensures) (c .before .before .before .before .before .if1 .left)
+    (goes-on _ _ (c .before .before .before .before .requested .ensures) (c .before .before .before .refuses2 .ensures) (c .before .before .if2 .left)
+    (sym (judged-first Refused Accepted _ _ _ (ap not (extends-is (c .before .before .before .before .before .before .before .before .before .before .before .args .held .now) (c .before .before .before .before .before .before .before .before .before .before .before .args .proven .now) _ (c .before .before .before .before .before .before .before .before .before .before .before .pre) (c .before .extends .ensures)) ∙ c .if3 .taken))))
+
+appendable-requires : tie.Need-appendable-requires
+appendable-requires c κs = search needs
+
+returns-4 : tie.Need-returns-4
+returns-4 c =
+    goes-on _ _ (c .before .before .before .before .before .before .before .before .check-heading .ensures) (c .before .before .before .before .before .before .before .refuses .ensures) (c .before .before .before .before .before .before .if1 .left)
+    (goes-on _ _ (c .before .before .before .before .before .requested .ensures) (c .before .before .before .before .refuses2 .ensures) (c .before .before .before .if2 .left)
+    (c .appendable .ensures ∙ sym (judged-next Refused Accepted _ _ _ (ap not (extends-is (c .before .before .before .before .before .before .before .before .before .before .before .before .args .held .now) (c .before .before .before .before .before .before .before .before .before .before .before .before .args .proven .now) _ (c .before .before .before .before .before .before .before .before .before .before .before .before .pre) (c .before .before .extends .ensures)) ∙ c .before .if3 .left))))
 
 pub check-spec : {M : Type 1} → statement M
 check-spec =
@@ -70,11 +58,6 @@ check-spec =
     refuses-requires-2
     returns-2
     extends-requires
-    reuses-requires
-    nothing-new-requires
-    overflows-requires
-    given-requires
-    given-requires-2
-    given-requires-3
-    given-requires-4
-    returns-3)
+    returns-3
+    appendable-requires
+    returns-4)

@@ -25,13 +25,13 @@ returns-2 c =
     goes-on _ _ (c .before .before .before .before .before .heading .ensures) (c .before .before .before .before .refuses .ensures) (c .before .before .before .if1 .left)
     (stops _ _ (c .before .before .requested .ensures) (c .before .refuses2 .ensures) (c .if2 .taken))
 
-against-requires : tie.Need-against-requires
-against-requires c κs = search needs
+appendable-requires : tie.Need-appendable-requires
+appendable-requires c κs = search needs
 
 returns-3 : tie.Need-returns-3
 returns-3 c =
     goes-on _ _ (c .before .before .before .before .before .before .heading .ensures) (c .before .before .before .before .before .refuses .ensures) (c .before .before .before .before .if1 .left)
-    (goes-on _ _ (c .before .before .before .requested .ensures) (c .before .before .refuses2 .ensures) (c .before .if2 .left) (c .against .ensures))
+    (goes-on _ _ (c .before .before .before .requested .ensures) (c .before .before .refuses2 .ensures) (c .before .if2 .left) (c .appendable .ensures))
 
 pub check-spec : {M : Type 1} → statement M
 check-spec =
@@ -43,5 +43,5 @@ check-spec =
     requested-requires
     refuses-requires-2
     returns-2
-    against-requires
+    appendable-requires
     returns-3)
