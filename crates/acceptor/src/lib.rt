@@ -9,6 +9,7 @@ mod verify;
 ghost use mathlib.Core.Path.{_≡_};
 ghost use Prim.Native.Nat.{_≤_};
 ghost use lib.ListN.{length, take};
+ghost use Rattle.words.specs.Sizes.{capacity};
 ghost use Rattle.table.specs.Table.{row};
 ghost use Rattle.refusal.specs.Rules.{answer};
 ghost use Rattle.frame.specs.Format.{frameWith, readingWith};
@@ -92,7 +93,7 @@ fn judge<'a>(
     head: Heading,
     all: &'a [u64],
 ) -> Answer
-    requires { ⌜ (length (now held) ≤ 32) × (head .n ≤ 32) ⌝ }
+    requires { ⌜ (length (now held) ≤ capacity) × (head .n ≤ capacity) ⌝ }
     ensures { λ a. ⌜ a ≡ answer (spec.frameRules (spec.kindOf (head .kind)) r view marks (now (held .entry)) (now (proven .entry)) (row (now (words .entry)) (now (counts .entry)) (head .sender)) (frameWith head (now (all .entry)))) ⌝ }
 {
     let classic = head.kind == P1A;
@@ -123,9 +124,9 @@ fn config<'a>(
     room: usize,
     v: ViewRecord,
     marks: Marks,
-    held: &[u64; 32],
+    held: &[u64; words::CAPACITY],
     held_count: u8,
-    proven: &[u64; 32],
+    proven: &[u64; words::CAPACITY],
     proven_count: u8,
     words: &'a [u64],
     counts: &'a [u8],
@@ -147,16 +148,16 @@ fn check<'a>(
     room: usize,
     v: ViewRecord,
     marks: Marks,
-    held: &'a [u64; 32],
+    held: &'a [u64; words::CAPACITY],
     held_count: u8,
-    proven: &'a [u64; 32],
+    proven: &'a [u64; words::CAPACITY],
     proven_count: u8,
     words: &'a [u64; 512],
     counts: &'a [u8; 16],
     head: Heading,
-    all: &'a [u64; 64],
+    all: &'a [u64; frame::CAPACITY],
 ) -> Answer
-    requires { ⌜ head .n ≤ 32 ⌝ }
+    requires { ⌜ head .n ≤ capacity ⌝ }
     ensures { λ a. ⌜ a ≡ answer (effects.rulesOn r own room v (parts.stateOf marks (now (held .entry)) «held_count» (now (proven .entry)) «proven_count» (now (words .entry)) (now (counts .entry))) (readingWith head (now (all .entry)))) ⌝ }
 {
     let unfit = config(
@@ -205,10 +206,10 @@ fn perform(
     v: ViewRecord,
     marks: Marks,
     head: Heading,
-    buf: &mut [u64; 64],
-    held: &mut [u64; 32],
+    buf: &mut [u64; frame::CAPACITY],
+    held: &mut [u64; words::CAPACITY],
     held_count: &mut u8,
-    proven: &mut [u64; 32],
+    proven: &mut [u64; words::CAPACITY],
     proven_count: &mut u8,
     words: &mut [u64; 512],
     counts: &mut [u8; 16],
@@ -277,9 +278,9 @@ pub fn step_in_place(
     own: u8,
     v: ViewRecord,
     marks: Marks,
-    held: &mut [u64; 32],
+    held: &mut [u64; words::CAPACITY],
     held_count: &mut u8,
-    proven: &mut [u64; 32],
+    proven: &mut [u64; words::CAPACITY],
     proven_count: &mut u8,
     words: &mut [u64; 512],
     counts: &mut [u8; 16],
@@ -288,7 +289,7 @@ pub fn step_in_place(
 ) -> Settled
     ensures { λ o. ⌜ (parts.outcomeOf o (now (held .exit)) (now («held_count» .exit)) (now (proven .exit)) (now («proven_count» .exit)) (now (words .exit)) (now (counts .exit)) ≡ spec.returned r own v (parts.stateOf marks (now (held .entry)) (now («held_count» .entry)) (now (proven .entry)) (now («proven_count» .entry)) (now (words .entry)) (now (counts .entry))) (now (line .entry)) (now (out .entry))) × (now (out .exit) ≡ spec.output r own v (parts.stateOf marks (now (held .entry)) (now («held_count» .entry)) (now (proven .entry)) (now («proven_count» .entry)) (now (words .entry)) (now (counts .entry))) (now (line .entry)) (now (out .entry))) ⌝ }
 {
-    let mut buf = [0u64; 64];
+    let mut buf = [0u64; frame::CAPACITY];
     let head = frame::read_into(words::LIMIT, line, TAKEN, &mut buf);
     let room = out.len();
     let answer = check(

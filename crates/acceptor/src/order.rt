@@ -3,6 +3,7 @@ ghost use mathlib.Core.List.{[]};
 ghost use mathlib.Core.Path.{_≡_};
 ghost use Prim.Native.Nat.{_≤_};
 ghost use lib.ListN.{length};
+ghost use Rattle.words.specs.Sizes.{capacity};
 ghost use Rattle.refusal.specs.Rules.{answer};
 ghost use Rattle.frame.specs.Format.{frameWith};
 ghost use Rattle.acceptor.specs.Acceptor as spec;
@@ -31,7 +32,7 @@ fn check_heading(r: Roster, view: View, marks: Marks, head: Heading) -> Answer
 
 // Whether h does not extend the proven history or, if one was signed in this ballot, the held one.
 fn lags(signed: u8, held: &[u64], proven: &[u64], h: &[u64]) -> bool
-    requires { ⌜ length (now h) ≤ 32 ⌝ }
+    requires { ⌜ length (now h) ≤ capacity ⌝ }
     ensures { λ b. ⌜ b ≡ spec.lags signed (now (held .entry)) (now (proven .entry)) (now (h .entry)) ⌝ }
 {
     let ahead = history::extends(h, proven);
@@ -55,7 +56,7 @@ pub(crate) fn check<'a>(
     head: Heading,
     h: &'a [u64],
 ) -> Answer
-    requires { ⌜ length (now h) ≤ 32 ⌝ }
+    requires { ⌜ length (now h) ≤ capacity ⌝ }
     ensures { λ a. ⌜ a ≡ answer (spec.orderRules r view marks (now (held .entry)) (now (proven .entry)) (frameWith head []) (now (h .entry))) ⌝ }
 {
     let heading = check_heading(r, view, marks, head);

@@ -3,6 +3,8 @@ ghost use mathlib.Core.List.{[]};
 ghost use mathlib.Core.Path.{_≡_};
 ghost use Prim.Native.Nat.{_≤_};
 ghost use lib.ListN.{length, take};
+ghost use Rattle.frame.specs.Layout.{frameCapacity};
+ghost use Rattle.words.specs.Sizes.{capacity};
 ghost use Rattle.refusal.specs.Rules.{answer};
 ghost use Rattle.frame.specs.Format.{frameWith};
 ghost use Rattle.acceptor.specs.Acceptor as spec;
@@ -35,7 +37,7 @@ pub(crate) fn check<'a>(
     head: Heading,
     h: &'a [u64],
 ) -> Answer
-    requires { ⌜ length (now held) ≤ 32 ⌝ }
+    requires { ⌜ length (now held) ≤ capacity ⌝ }
     ensures { λ a. ⌜ a ≡ answer (spec.proposeRules marks (now (held .entry)) (now (proven .entry)) (frameWith head []) (now (h .entry))) ⌝ }
 {
     let heading = check_heading(marks, head);
@@ -57,10 +59,10 @@ pub(crate) fn check<'a>(
 
 // Writes what is held over the first n words of buf, with those of them that are new appended, and answers how many words that is.
 fn unite(held: &[u64], n: usize, buf: &mut [u64]) -> usize
-    requires { ⌜ (length (now held) ≤ 32) × (n ≤ 32) × (length (now buf) ≡ 64) ⌝ }
+    requires { ⌜ (length (now held) ≤ capacity) × (n ≤ capacity) × (length (now buf) ≡ frameCapacity) ⌝ }
     ensures { λ k. ⌜ effects.United (now (held .entry)) (take n (now (buf .entry))) k (now (buf .exit)) ⌝ }
 {
-    let mut more = [0u64; 32];
+    let mut more = [0u64; words::CAPACITY];
     history::fill(&mut more, &buf[..n]);
     history::fill(buf, held);
     merge::append(buf, held.len(), &more[..n])
@@ -68,7 +70,7 @@ fn unite(held: &[u64], n: usize, buf: &mut [u64]) -> usize
 
 // Writes what is held over the first n words of buf, with those of them that are new, in canonical order, and answers how many words that is.
 fn lengthen(held: &[u64], n: usize, buf: &mut [u64]) -> usize
-    requires { ⌜ (length (now held) ≤ 32) × (n ≤ 32) × (length (now buf) ≡ 64) ⌝ }
+    requires { ⌜ (length (now held) ≤ capacity) × (n ≤ capacity) × (length (now buf) ≡ frameCapacity) ⌝ }
     ensures { λ k. ⌜ take k (now (buf .exit)) ≡ spec.lengthened (now (held .entry)) (take n (now (buf .entry))) ⌝ }
 {
     let k = unite(held, n, buf);
@@ -80,12 +82,12 @@ fn lengthen(held: &[u64], n: usize, buf: &mut [u64]) -> usize
 // what is held with those of them that are new.
 pub(crate) fn prepare(
     asks: bool,
-    held: &[u64; 32],
+    held: &[u64; words::CAPACITY],
     held_count: u8,
     n: usize,
-    buf: &mut [u64; 64],
+    buf: &mut [u64; frame::CAPACITY],
 ) -> usize
-    requires { ⌜ n ≤ 32 ⌝ }
+    requires { ⌜ n ≤ capacity ⌝ }
     ensures { λ k. ⌜ take k (now (buf .exit)) ≡ effects.asked asks (take «held_count» (now (held .entry))) (take n (now (buf .entry))) ⌝ }
 {
     if asks {

@@ -3,6 +3,7 @@ ghost use mathlib.Core.List.{[]};
 ghost use mathlib.Core.Path.{_≡_};
 ghost use Prim.Native.Nat.{min, _≤_};
 ghost use lib.ListN.{length};
+ghost use Rattle.words.specs.Sizes.{capacity};
 ghost use Rattle.history.specs.Words.{historyOf, stored};
 ghost use Rattle.table.specs.Table.{storedAt, tableOf};
 ghost use Rattle.site.specs.Message.{message};
@@ -21,14 +22,14 @@ const VERIFY: u8 = 6;
 
 // How many commands are kept of h: all, but at most 32.
 fn count_of(h: &[u64]) -> u8
-    ensures { λ k. ⌜ k ≡ min (length (now (h .entry))) 32 ⌝ }
+    ensures { λ k. ⌜ k ≡ min (length (now (h .entry))) capacity ⌝ }
 {
     let n = h.len();
     if n < words::CAPACITY { n as u8 } else { 32 }
 }
 
 // Makes h the history of these words and this count.
-pub(crate) fn replace(h: &[u64], words: &mut [u64; 32], count: &mut u8)
+pub(crate) fn replace(h: &[u64], words: &mut [u64; words::CAPACITY], count: &mut u8)
     ensures { λ u. ⌜ historyOf (now (words .exit)) (now (count .exit)) ≡ stored (now (h .entry)) ⌝ }
 {
     history::fill(words, h);
@@ -52,7 +53,7 @@ pub(crate) fn notify(
     h: &[u64],
     out: &mut [u8],
 ) -> usize
-    requires { ⌜ length (now h) ≤ 32 ⌝ }
+    requires { ⌜ length (now h) ≤ capacity ⌝ }
     ensures { λ k. ⌜ Handed (sends (message kind own view ballot (record { 0 = 0 }) mask (now (h .entry)) [])) k (now (out .entry)) (now (out .exit)) ⌝ }
 {
     let none: [u64; 0] = [];
@@ -91,15 +92,15 @@ pub(crate) fn perform(
     v: ViewRecord,
     marks: Marks,
     h: &[u64],
-    held: &mut [u64; 32],
+    held: &mut [u64; words::CAPACITY],
     held_count: &mut u8,
-    proven: &[u64; 32],
+    proven: &[u64; words::CAPACITY],
     proven_count: u8,
     words: &mut [u64; 512],
     counts: &mut [u8; 16],
     out: &mut [u8],
 ) -> Settled
-    requires { ⌜ length (now h) ≤ 32 ⌝ }
+    requires { ⌜ length (now h) ≤ capacity ⌝ }
     ensures { λ o. ⌜ effects.Done (spec.sign own v (parts.stateOf marks (now (held .entry)) (now («held_count» .entry)) (now (proven .entry)) «proven_count» (now (words .entry)) (now (counts .entry))) (now (h .entry))) (now (out .entry)) (parts.outcomeOf o (now (held .exit)) (now («held_count» .exit)) (now (proven .entry)) «proven_count» (now (words .exit)) (now (counts .exit))) (now (out .exit)) ⌝ }
 {
     let sent = notify(VERIFY, own, v.view, marks.ballot, 0, h, out);

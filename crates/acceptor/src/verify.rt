@@ -4,6 +4,7 @@ ghost use mathlib.Core.List.{[]};
 ghost use mathlib.Core.Path.{_≡_};
 ghost use Prim.Native.Nat.{_≤_};
 ghost use lib.ListN.{length};
+ghost use Rattle.words.specs.Sizes.{capacity};
 ghost use Rattle.roster.specs.Sites.{maskTo};
 ghost use Rattle.content.specs.Content.{contradicts};
 ghost use Rattle.table.specs.Table.{row, storedAt, tableOf};
@@ -48,7 +49,7 @@ pub(crate) fn check<'a>(
     head: Heading,
     h: &'a [u64],
 ) -> Answer
-    requires { ⌜ (length (now entry) ≤ 32) × (length (now h) ≤ 32) ⌝ }
+    requires { ⌜ (length (now entry) ≤ capacity) × (length (now h) ≤ capacity) ⌝ }
     ensures { λ a. ⌜ a ≡ answer (spec.verifyRules r view marks (now (entry .entry)) (frameWith head []) (now (h .entry))) ⌝ }
 {
     let heading = check_heading(r, view, marks, head);
@@ -85,7 +86,7 @@ fn certify<'a>(words: &'a [u64], counts: &'a [u8], n: u8, h: &[u64]) -> u16
 
 // Whether h, which the sites of the mask verified, becomes proven.
 fn convinces(r: Roster, marks: Marks, proven: &[u64], mask: u16, h: &[u64]) -> bool
-    requires { ⌜ length (now h) ≤ 32 ⌝ }
+    requires { ⌜ length (now h) ≤ capacity ⌝ }
     ensures { λ b. ⌜ b ≡ spec.convinces r marks (now (proven .entry)) mask (now (h .entry)) ⌝ }
 {
     let enough = roster::reaches(mask, r.quorum());
@@ -125,22 +126,22 @@ fn store(
     marks: Marks,
     site: u8,
     h: &[u64],
-    held: &[u64; 32],
+    held: &[u64; words::CAPACITY],
     held_count: u8,
-    proven: &mut [u64; 32],
+    proven: &mut [u64; words::CAPACITY],
     proven_count: &mut u8,
     words: &mut [u64; 512],
     counts: &mut [u8; 16],
     out: &mut [u8],
 ) -> Settled
-    requires { ⌜ (r .n ≤ 16) × (length (now h) ≤ 32) ⌝ }
+    requires { ⌜ (r .n ≤ 16) × (length (now h) ≤ capacity) ⌝ }
     ensures { λ o. ⌜ effects.Done (spec.store r own (parts.stateOf marks (now (held .entry)) «held_count» (now (proven .entry)) (now («proven_count» .entry)) (now (words .entry)) (now (counts .entry))) (storedAt (tableOf (now (words .entry)) (now (counts .entry))) site (now (h .entry))) (now (h .entry))) (now (out .entry)) (parts.outcomeOf o (now (held .entry)) «held_count» (now (proven .exit)) (now («proven_count» .exit)) (now (words .exit)) (now (counts .exit))) (now (out .exit)) ⌝ }
 {
     signing::enter(h, site, words, counts);
     let mask = certify(words, counts, r.n, h);
     let past = *proven_count;
-    let own_words: &[u64] = proven;
-    let proves = convinces(r, marks, history::first(own_words, past as usize), mask, h);
+    let present: &[u64] = proven;
+    let proves = convinces(r, marks, history::first(present, past as usize), mask, h);
     if !proves {
         return silent(marks, Answer::Accepted);
     }
@@ -162,15 +163,15 @@ pub(crate) fn perform(
     marks: Marks,
     site: u8,
     h: &[u64],
-    held: &[u64; 32],
+    held: &[u64; words::CAPACITY],
     held_count: u8,
-    proven: &mut [u64; 32],
+    proven: &mut [u64; words::CAPACITY],
     proven_count: &mut u8,
     words: &mut [u64; 512],
     counts: &mut [u8; 16],
     out: &mut [u8],
 ) -> Settled
-    requires { ⌜ (r .n ≤ 16) × (length (now h) ≤ 32) × (contradicts (row (now words) (now counts) site) (now h) ≡ false) ⌝ }
+    requires { ⌜ (r .n ≤ 16) × (length (now h) ≤ capacity) × (contradicts (row (now words) (now counts) site) (now h) ≡ false) ⌝ }
     ensures { λ o. ⌜ effects.Done (spec.verifying r own (parts.stateOf marks (now (held .entry)) «held_count» (now (proven .entry)) (now («proven_count» .entry)) (now (words .entry)) (now (counts .entry))) site (now (h .entry))) (now (out .entry)) (parts.outcomeOf o (now (held .entry)) «held_count» (now (proven .exit)) (now («proven_count» .exit)) (now (words .exit)) (now (counts .exit))) (now (out .exit)) ⌝ }
 {
     let lengths: &[u8] = counts;

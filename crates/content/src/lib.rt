@@ -3,6 +3,7 @@
 ghost use mathlib.Core.Path.{_≡_};
 ghost use Prim.Native.Nat.{min};
 ghost use Rattle.words.specs.Sizes.{capacity};
+ghost use Rattle.history.specs.Words.{unionCapacity};
 ghost use Rattle.refusal.specs.Rules.{answer};
 ghost use Rattle.content.specs.Content as spec;
 use refusal::Answer;
@@ -73,9 +74,9 @@ pub fn appendable<'a>(limit: u8, list: &'a [u64], h: &'a [u64]) -> Answer
     given(full, Refusal::Full, Answer::Accepted)
 }
 
-// Whether neither of a site's entry and h extends the other, of lists of at most 64 commands: a longer one extends nothing here.
+// Whether neither of a site's entry and h extends the other, of lists that a union of two histories can be: a longer one extends nothing here.
 pub fn contradicts<'a>(entry: &'a [u64], h: &'a [u64]) -> bool
-    ensures { λ b. ⌜ b ≡ spec.contradictsWithin 64 (now (entry .entry)) (now (h .entry)) ⌝ }
+    ensures { λ b. ⌜ b ≡ spec.contradictsWithin unionCapacity (now (entry .entry)) (now (h .entry)) ⌝ }
 {
     let newer = history::extends(h, entry);
     if newer {

@@ -449,14 +449,6 @@ module _ (limit : ℕ) (l : List ℕ) (kinds : ℕ) where
   unfolding readingOf
   reading-line p q = rw (p, q)
 
-  pub reading-none : readingOf limit l kinds .found ≡ false → readingOf limit l kinds ≡ nothing
-  unfolding readingOf
-  reading-none e = go (isLine limit l && bit kinds (frameOf l .kind)) (sym found-is ∙ e)
-    where
-      go : (b : Bool) → b ≡ false → cond b (record { found = true; frame = frameOf l }) nothing ≡ nothing
-      go true e = absurd (true≢false e)
-      go false e = refl
-
   module _ (e : readingOf limit l kinds .found ≡ true) where
     pub found-line : isLine limit l ≡ true
     found-line = and-left (isLine limit l) (bit kinds (frameOf l .kind)) (sym found-is ∙ e)
@@ -476,9 +468,6 @@ module _ (limit : ℕ) (l : List ℕ) (kinds : ℕ) where
 
     pub found-words-fit : allFit (commands frameCapacity) (readingOf limit l kinds .frame .words) ≡ true
     found-words-fit = ap (λ (f : Frame). allFit (commands frameCapacity) (f .words)) found-frame ∙ frame-words-fit limit l (line-is limit l found-line)
-
-    pub found-writable : limit ≤ capacity → writable (readingOf limit l kinds .frame) ≡ true
-    found-writable small = ap writable found-frame ∙ frame-is-writable limit l small found-line
 
     pub found-n : readingOf limit l kinds .frame .n ≤ limit
     found-n = proper-n limit (readingOf limit l kinds .frame) found-proper

@@ -18,7 +18,7 @@ use Rattle.frame.specs.declared.Frame.{Frame}
 use Rattle.frame.specs.Layout.{longest, lineLength, count, frameCapacity, withValues, header}
 use Rattle.frame.specs.Kinds.{uses, isKind, unusedZero, zeroUnless}
 use Rattle.frame.specs.Format.{proper, allZero, fits, lineOf, isLine, frameOf, writable, readingOf, hasRoom, writtenLength, written}
-use Rattle.frame.specs.FormatLaws.{frame-of-line, line-is-line, line-of-frame, frame-is-writable, length-of-line, line-at-most, reading-line}
+use Rattle.frame.specs.FormatLaws.{writable-n, writable-m, frame-of-line, line-is-line, line-of-frame, frame-is-writable, length-of-line, line-at-most, reading-line}
 
 -- ---- both ways round
 
@@ -40,6 +40,11 @@ module _ (f : Frame) (out : List ℕ) (room : hasRoom f (length out) ≡ true) w
       → readingOf limit (take (writtenLength f out) (written f out)) kinds ≡ record { found = true; frame = f }
   read-what-was-written limit kinds n m b =
       rw (written-front, reading-line limit (lineOf f) kinds (line-is-line limit f can-write n m) (rw (frame-of-line f can-write) b), frame-of-line f can-write)
+
+  -- so under the capacity every frame that can be written is read back
+  pub whatever-was-written : (kinds : ℕ) → bit kinds (f .kind) ≡ true
+      → readingOf capacity (take (writtenLength f out) (written f out)) kinds ≡ record { found = true; frame = f }
+  whatever-was-written kinds b = read-what-was-written capacity kinds (writable-n f can-write) (writable-m f can-write) b
 
 -- writing what was read gives the line, byte for byte, under each limit that there is room for
 module _ (limit : ℕ) (l : List ℕ) (small : limit ≤ capacity) (is : isLine limit l ≡ true) (out : List ℕ) (room : length l ≤ length out) where

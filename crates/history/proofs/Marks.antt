@@ -11,7 +11,7 @@ use Rattle.basics.specs.Lists.{drop-next}
 use Rattle.command.specs.Command.{sameRequest}
 use Rattle.command.specs.CommandLaws.{same-fields}
 use Rattle.history.specs.History.{present, repeated}
-use Rattle.history.specs.Marks.{mark, marked}
+use Rattle.history.specs.Code.Marks.{mark, marked}
 
 -- a command whose mark is not set is not among those whose marks are
 pub unmarked-absent : (s : List Bool) (c : ℕ) (h : List ℕ) → marked s h ≡ true → getD s (mark c) false ≡ false → present c h ≡ false

@@ -12,7 +12,7 @@ use lib.Seq.{take-length, take-all, length-take-le, append-snoc, take-suc-set, d
 use Rattle.basics.specs.Lists.{drop-next, take-next}
 use Rattle.command.specs.Command.{conflict, sameRequest}
 use Rattle.history.specs.History.{present, repeated}
-use Rattle.history.specs.Insertion.{place, stays, walk}
+use Rattle.history.specs.Code.Insertion.{place, stays, walk}
 use Rattle.history.specs.Front.{offAt, shifted, rotated}
 
 -- the part of a list from a on, as a slice `&h[a..]` is made of it

@@ -9,7 +9,7 @@ use lib.ListN.{length, take, drop, getD, drop-of-length-le, length-drop, take-ap
 use lib.Seq.{take-take, take-all, append-snoc, drop-drop, getD-drop}
 use Rattle.basics.specs.Lists.{drop-next, take-next}
 use Rattle.history.specs.History.{comesOff, without, extends}
-use Rattle.history.specs.Insertion.{clear, place, insert, arrange, Bounded, none, more}
+use Rattle.history.specs.Code.Insertion.{clear, place, insert, arrange, Bounded, none, more}
 use Rattle.history.specs.Front.{rotated, fronted, offAt}
 use Rattle.history.specs.FrontLaws.{Standing, off-at-standing, off-at-absent}
 use Rattle.history.proofs.Moves.{moved, moved-take, moved-drop, moved-head, moved-rest, moved-length}

@@ -15,7 +15,7 @@ use Rattle.history.specs.History.{Equivalent, same, keep, trans, canonic
 use Rattle.history.specs.TakesLaws.{Takes, here, there, takes-equivalent, equivalent-sym, equivalent-behind, equivalent-refl}
 use Rattle.history.specs.CoherenceLaws.{Clear, empty, more, clear-past}
 use Rattle.history.specs.CanonicalLaws.{Takeable, off, takeable-along, Canonical, done, next, canonical-is, canonical-equivalent, canonical-equivalent′, equal-refl, is-canonical, one-order}
-use Rattle.history.specs.Insertion.{clear, place, insert, arrange, stays, walk}
+use Rattle.history.specs.Code.Insertion.{clear, place, insert, arrange, stays, walk}
 
 -- ---- one insertion
 

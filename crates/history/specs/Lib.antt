@@ -4,13 +4,12 @@ pub mod TakesLaws
 pub mod ExtensionLaws
 pub mod CoherenceLaws
 pub mod CanonicalLaws
-pub mod Insertion
 pub mod InsertionLaws
 pub mod OrderLaws
 pub mod ValidLaws
 pub mod Front
 pub mod FrontLaws
-pub mod Marks
 pub mod Words
 pub mod WordsLaws
 pub mod FitLaws
+pub mod Code

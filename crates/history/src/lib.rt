@@ -4,11 +4,11 @@ ghost use mathlib.Core.Bool.{true};
 ghost use Prim.Native.Nat.{_≤_, _<_};
 ghost use lib.ListN.{length, take, drop, getD};
 ghost use Rattle.history.specs.History as spec;
-ghost use Rattle.history.specs.Insertion as insertion;
+ghost use Rattle.history.specs.Code.Insertion as insertion;
 ghost use Rattle.history.specs.Front as front;
 ghost use Rattle.history.specs.Words.{historyOf, validStored};
 ghost use Rattle.history.specs.Words as words;
-ghost use Rattle.history.specs.Marks as marks;
+ghost use Rattle.history.specs.Code.Marks as marks;
 pub use words::fill;
 pub use words::first;
 pub use words::same;
@@ -265,8 +265,8 @@ pub fn bring(work: &mut [u64], g: &[u64]) -> bool
     true
 }
 
-// The most commands of an extension that is tested: a union of two histories of 32.
-pub const WORK: usize = 64;
+// The most commands of an extension that is tested: a union of two histories.
+pub const WORK: usize = 2 * words::CAPACITY;
 
 // Whether h extends g, tried on a copy of h.
 fn extends_in(work: &mut [u64], h: &[u64], g: &[u64]) -> bool
@@ -279,7 +279,7 @@ fn extends_in(work: &mut [u64], h: &[u64], g: &[u64]) -> bool
 
 // Whether h extends g, where the first k commands of both are the same.
 fn extends_past(h: &[u64], g: &[u64], k: usize) -> bool
-    requires { ⌜ (length (now h) ≤ 64) × (k ≤ length (now h)) × (k ≤ length (now g)) × (take k (now h) ≡ take k (now g)) ⌝ }
+    requires { ⌜ (length (now h) ≤ words.unionCapacity) × (k ≤ length (now h)) × (k ≤ length (now g)) × (take k (now h) ≡ take k (now g)) ⌝ }
     ensures { λ r. ⌜ r ≡ spec.extends (now (h .entry)) (now (g .entry)) ⌝ }
 {
     let n = h.len() - k;
@@ -287,9 +287,9 @@ fn extends_past(h: &[u64], g: &[u64], k: usize) -> bool
     extends_in(&mut work[..n], &h[k..], &g[k..])
 }
 
-// Whether h extends g, of an h of at most 64 commands; a longer one extends nothing here.
+// Whether h extends g, of an h that a union of two histories can be; a longer one extends nothing here.
 pub fn extends(h: &[u64], g: &[u64]) -> bool
-    ensures { λ r. ⌜ r ≡ words.extendsWithin 64 (now (h .entry)) (now (g .entry)) ⌝ }
+    ensures { λ r. ⌜ r ≡ words.extendsWithin words.unionCapacity (now (h .entry)) (now (g .entry)) ⌝ }
 {
     let fits = h.len() <= WORK;
     if !fits {

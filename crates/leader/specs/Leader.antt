@@ -84,10 +84,11 @@ config r own room s =
 abbrev pub form : List ℕ → Bool
 form line = malformed limit line taken
 
--- LEADER "needs view mod N its own number and a view above its own (else STALE), and N-f ones"
+-- LEADER "needs view mod N its own number and a view above its own (else STALE)"
 unfoldable pub leads : Roster → ℕ → Marks → View → Bool
 leads r own k view = eqb (leaderOf r view) own && laterView view (k .view)
 
+-- PROOF: "and N-f ones"
 abbrev pub leaderRules : Roster → ℕ → Marks → Frame → List Rule
 leaderRules r own k m = leb (r .n) (m .sender) gives Sender ∷ not (leads r own k (m .view)) gives Stale ∷ unproven (m .mask) (r .n) (quorum r) gives Proof ∷ []
 

@@ -69,7 +69,7 @@ const PROPOSE: u8 = 4;
 const TAKEN: u16 = 1048;
 
 // Whether pending commands may be lent: no more than the limit, valid, no proposer and serial twice. Their order is free.
-fn pending_valid(limit: u8, words: &[u64; 32], count: u8) -> bool
+fn pending_valid(limit: u8, words: &[u64; words::CAPACITY], count: u8) -> bool
     ensures { λ b. ⌜ b ≡ spec.validPending limit (historyOf (now (words .entry)) count) ⌝ }
 {
     let fits = count <= limit;
@@ -86,7 +86,7 @@ fn config<'a>(
     own: u8,
     room: usize,
     marks: Marks,
-    pending: &'a [u64; 32],
+    pending: &'a [u64; words::CAPACITY],
     count: u8,
     proven: &'a [u64; 512],
     proven_counts: &'a [u8; 16],
@@ -109,7 +109,7 @@ fn judge<'a>(
     marks: Marks,
     pending: &'a [u64],
     head: Heading,
-    words: &'a [u64; 64],
+    words: &'a [u64; frame::CAPACITY],
 ) -> Answer
     ensures { λ a. ⌜ a ≡ answer (spec.frameRules (spec.kindOf (head .kind)) r own marks (now (pending .entry)) (frameWith head (now (words .entry)))) ⌝ }
 {
@@ -133,14 +133,14 @@ fn check<'a>(
     own: u8,
     room: usize,
     marks: Marks,
-    pending: &'a [u64; 32],
+    pending: &'a [u64; words::CAPACITY],
     count: u8,
     proven: &'a [u64; 512],
     proven_counts: &'a [u8; 16],
     held: &'a [u64; 512],
     held_counts: &'a [u8; 16],
     head: Heading,
-    words: &'a [u64; 64],
+    words: &'a [u64; frame::CAPACITY],
 ) -> Answer
     ensures { λ a. ⌜ a ≡ answer (calls.rulesOn r own room (parts.stateOf marks (now (pending .entry)) count (now (proven .entry)) (now («proven_counts» .entry)) (now (held .entry)) (now («held_counts» .entry))) (readingWith head (now (words .entry)))) ⌝ }
 {
@@ -187,8 +187,8 @@ fn perform(
     own: u8,
     marks: Marks,
     head: Heading,
-    words: &[u64; 64],
-    pending: &mut [u64; 32],
+    words: &[u64; frame::CAPACITY],
+    pending: &mut [u64; words::CAPACITY],
     count: &mut u8,
     proven: &mut [u64; 512],
     proven_counts: &mut [u8; 16],
@@ -229,7 +229,7 @@ pub fn step_in_place(
     r: Roster,
     own: u8,
     marks: Marks,
-    pending: &mut [u64; 32],
+    pending: &mut [u64; words::CAPACITY],
     count: &mut u8,
     proven: &mut [u64; 512],
     proven_counts: &mut [u8; 16],
@@ -240,7 +240,7 @@ pub fn step_in_place(
 ) -> Settled
     ensures { λ o. ⌜ ((parts.outcomeOf o (now (pending .exit)) (now (count .exit)) (now (proven .exit)) (now («proven_counts» .exit)) (now (held .exit)) (now («held_counts» .exit))) ≡ spec.returned r own (parts.stateOf marks (now (pending .entry)) (now (count .entry)) (now (proven .entry)) (now («proven_counts» .entry)) (now (held .entry)) (now («held_counts» .entry))) (now (line .entry)) (now (out .entry))) × (now (out .exit) ≡ spec.output r own (parts.stateOf marks (now (pending .entry)) (now (count .entry)) (now (proven .entry)) (now («proven_counts» .entry)) (now (held .entry)) (now («held_counts» .entry))) (now (line .entry)) (now (out .entry))) ⌝ }
 {
-    let mut read = [0u64; 64];
+    let mut read = [0u64; frame::CAPACITY];
     let head = frame::read_into(words::LIMIT, line, TAKEN, &mut read);
     let words = &read;
     let room = out.len();
@@ -284,7 +284,7 @@ pub fn open_in_place(
     r: Roster,
     own: u8,
     marks: Marks,
-    pending: &mut [u64; 32],
+    pending: &mut [u64; words::CAPACITY],
     count: &mut u8,
     proven: &mut [u64; 512],
     proven_counts: &mut [u8; 16],

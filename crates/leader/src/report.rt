@@ -5,6 +5,7 @@ ghost use mathlib.Core.Path.{_≡_};
 ghost use Prim.Native.Nat.{_≤_};
 ghost use lib.Dec.{eqb};
 ghost use lib.ListN.{length, take, drop};
+ghost use Rattle.words.specs.Sizes.{capacity};
 ghost use Rattle.history.specs.Words.{historyOf, stored};
 ghost use Rattle.proposal.specs.Proposal.{remaining};
 ghost use Rattle.roster.specs.Mask.{withSite};
@@ -112,7 +113,7 @@ fn reporting(marks: Marks, site: u8) -> Marks
 
 // Writes the P2A of a proposal, if it is not empty, and answers the length of its line.
 fn send_p2a(own: u8, view: View, ballot: Ballot, h: &[u64], out: &mut [u8]) -> usize
-    requires { ⌜ length (now h) ≤ 32 ⌝ }
+    requires { ⌜ length (now h) ≤ capacity ⌝ }
     ensures { λ k. ⌜ Handed (sendsIf (not (eqb (length (now (h .entry))) 0)) (spec.p2a own view ballot (now (h .entry)))) k (now (out .entry)) (now (out .exit)) ⌝ }
 {
     let none: [u64; 0] = [];
@@ -132,7 +133,7 @@ fn send_p2a(own: u8, view: View, ballot: Ballot, h: &[u64], out: &mut [u8]) -> u
 
 // Keeps of the pending commands those that h does not hold, and leaves zeros after them.
 fn shorten(pending: &mut [u64], count: &mut u8, h: &[u64])
-    requires { ⌜ length (now pending) ≡ 32 ⌝ }
+    requires { ⌜ length (now pending) ≡ capacity ⌝ }
     ensures { λ u. ⌜ historyOf (now (pending .exit)) (now (count .exit)) ≡ stored (remaining (take (now (count .entry)) (now (pending .entry))) (now (h .entry))) ⌝ }
 {
     let present = *count;
@@ -148,7 +149,7 @@ fn conclude<'a>(
     r: Roster,
     own: u8,
     marks: Marks,
-    pending: &mut [u64; 32],
+    pending: &mut [u64; words::CAPACITY],
     count: &mut u8,
     proven: &'a [u64],
     proven_counts: &'a [u8],
@@ -192,8 +193,8 @@ pub(crate) fn collect(
     own: u8,
     marks: Marks,
     head: Heading,
-    words: &[u64; 64],
-    pending: &mut [u64; 32],
+    words: &[u64; frame::CAPACITY],
+    pending: &mut [u64; words::CAPACITY],
     count: &mut u8,
     proven: &mut [u64; 512],
     proven_counts: &mut [u8; 16],

@@ -2,6 +2,7 @@
 ghost use mathlib.Core.List.{[]};
 ghost use mathlib.Core.Path.{_≡_};
 ghost use lib.ListN.{length, take};
+ghost use Rattle.words.specs.Sizes.{capacity};
 ghost use Rattle.history.specs.Words.{historyOf, stored};
 ghost use Rattle.merge.specs.Merge.{appended};
 ghost use Rattle.refusal.specs.Rules.{answer};
@@ -39,7 +40,7 @@ pub(crate) fn check<'a>(pending: &'a [u64], head: Heading, h: &'a [u64]) -> Answ
 
 // Appends to the pending commands those of h that are not there yet, up to 32, and leaves zeros after them.
 pub(crate) fn lengthen(pending: &mut [u64], count: &mut u8, h: &[u64])
-    requires { ⌜ length (now pending) ≡ 32 ⌝ }
+    requires { ⌜ length (now pending) ≡ capacity ⌝ }
     ensures { λ u. ⌜ historyOf (now (pending .exit)) (now (count .exit)) ≡ stored (appended (take (now (count .entry)) (now (pending .entry))) (now (h .entry))) ⌝ }
 {
     let present = *count;

@@ -7,7 +7,7 @@ ghost use lib.Dec.{leb};
 ghost use lib.ListN.{length};
 ghost use Rattle.roster.specs.Roster.{quorum};
 ghost use Rattle.roster.specs.Sites.{countTo};
-ghost use Rattle.history.specs.Words.{historyOf};
+ghost use Rattle.history.specs.Words.{unionCapacity, historyOf};
 ghost use Rattle.table.specs.Table.{tableOf};
 ghost use Rattle.refusal.specs.Rules.{answer};
 ghost use Rattle.frame.specs.Format.{frameWith, readingWith};
@@ -79,7 +79,7 @@ fn vote_heading(r: Roster, head: Heading) -> Answer
 
 // The answer to a vote for h, up to its merge: the heading, then the commands, then the sender's entry.
 fn on_vote<'a>(r: Roster, entry: &'a [u64], head: Heading, h: &'a [u64]) -> Answer
-    requires { ⌜ (length (now entry) ≤ 64) × (length (now h) ≤ 64) ⌝ }
+    requires { ⌜ (length (now entry) ≤ unionCapacity) × (length (now h) ≤ unionCapacity) ⌝ }
     ensures { λ a. ⌜ a ≡ answer (spec.voteRules r (now (entry .entry)) (frameWith head []) (now (h .entry))) ⌝ }
 {
     let heading = vote_heading(r, head);
@@ -104,7 +104,7 @@ fn check<'a>(
     past: &'a [u64],
     count: u8,
     head: Heading,
-    all: &'a [u64; 64],
+    all: &'a [u64; frame::CAPACITY],
 ) -> Answer
     ensures { λ a. ⌜ a ≡ answer (code.checks r (parts.stateOf (now (words .entry)) (now (counts .entry)) (now (past .entry)) count) (readingWith head (now (all .entry)))) ⌝ }
 {
@@ -153,7 +153,7 @@ fn supporters<'a>(words: &'a [u64], counts: &'a [u8], n: u8, site: u8, h: &[u64]
 }
 
 // The merge of what is learned and the claims: of h, if its k supporters are N-f or more.
-fn merge_claims(r: Roster, k: u8, learned: &[u64; 32], count: u8, h: &[u64]) -> Merged
+fn merge_claims(r: Roster, k: u8, learned: &[u64; words::CAPACITY], count: u8, h: &[u64]) -> Merged
     ensures { λ m. ⌜ m ≡ spec.merging (historyOf (now (learned .entry)) count) (cond (leb (quorum r) k) (now (h .entry) ∷ []) []) ⌝ }
 {
     let enough = r.quorum() <= k as u32;
@@ -190,10 +190,10 @@ fn conclude(
     r: Roster,
     words: &mut [u64; 512],
     counts: &mut [u8; 16],
-    learned: &mut [u64; 32],
+    learned: &mut [u64; words::CAPACITY],
     count: &mut u8,
     head: Heading,
-    all: &[u64; 64],
+    all: &[u64; frame::CAPACITY],
 ) -> Answered
     requires { ⌜ code.Passed (now words) (now counts) (head .sender) (spec.arrived (frameWith head (now all))) ⌝ }
     ensures { λ o. ⌜ parts.outcomeOf o (parts.stateOf (now (words .exit)) (now (counts .exit)) (now (learned .exit)) (now (count .exit))) ≡ code.concluded r (parts.stateOf (now (words .entry)) (now (counts .entry)) (now (learned .entry)) (now (count .entry))) (head .sender) (spec.arrived (frameWith head (now (all .entry)))) ⌝ }
@@ -234,13 +234,13 @@ pub fn step_in_place(
     r: Roster,
     words: &mut [u64; 512],
     counts: &mut [u8; 16],
-    learned: &mut [u64; 32],
+    learned: &mut [u64; words::CAPACITY],
     count: &mut u8,
     line: &[u8],
 ) -> Answered
     ensures { λ o. ⌜ parts.outcomeOf o (parts.stateOf (now (words .exit)) (now (counts .exit)) (now (learned .exit)) (now (count .exit))) ≡ spec.step r (parts.stateOf (now (words .entry)) (now (counts .entry)) (now (learned .entry)) (now (count .entry))) (now (line .entry)) ⌝ }
 {
-    let mut carried = [0u64; 64];
+    let mut carried = [0u64; frame::CAPACITY];
     let head = frame::read_into(words::LIMIT, line, TAKEN, &mut carried);
     let early = check(r, words, counts, learned, *count, head, &carried);
     let stops = early.refuses();

@@ -1,4 +1,4 @@
--- What the answer of a merge means: split exactly where no common extension exists, full where the merge is longer than 32, else the merge.
+-- What the answer of a merge means: split exactly where no common extension exists, full where the merge is over the limit, else the merge.
 use mathlib.Core.Path.{_≡_, refl, ap, _∙_}
 use mathlib.Core.Bool.{Bool, true, false, cond, _&&_, and-comm}
 use mathlib.Core.List.{List}

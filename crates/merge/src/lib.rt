@@ -24,8 +24,7 @@ fn smaller(a: usize, b: usize) -> usize
 }
 
 // Appends to the first count words of buf the commands of more whose proposer and serial are not there yet, up to the end of buf.
-// Answers how many words there are then; the words behind them stay. A count past the end of buf counts as its length. To know whether all
-// of them fit within 32 words, append in a buffer of 64.
+// Answers how many words there are then; the words behind them stay. A count past the end of buf counts as its length.
 pub fn append(buf: &mut [u64], count: usize, more: &[u64]) -> usize
     ensures { λ r. ⌜ (r ≡ length (spec.appendedIn (now (buf .entry)) count (now (more .entry)))) × (now (buf .exit) ≡ spec.appendedIn (now (buf .entry)) count (now (more .entry)) ++ drop r (now (buf .entry))) ⌝ }
 {

@@ -1,4 +1,5 @@
--- An accepted answer is no refusal, and two refusals are equal as answers only if they are equal.
+-- Laws of answers: what `given` makes of a rule and of the answer of those after it; rules in tiers, of which the first that refuses answers; and what
+-- an answer says of the judgement by the same rules.
 use mathlib.Core.Path.{_≡_, refl, sym, ap, _∙_}
 use mathlib.Core.Bool.{Bool, true, false, cond, _||_, true≢false}
 use mathlib.Core.List.{List, [], _∷_, _++_}

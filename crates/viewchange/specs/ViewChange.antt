@@ -86,7 +86,7 @@ suspicionRules r v site view =
     full r v site gives Full ∷ []
 
 -- VIEWCHANGE to a view from a site, with a mask. STALE: "VIEWCHANGE needs a view above its own and not below
--- the target, and f+1 ones"
+-- the target"; PROOF: "and f+1 ones"
 abbrev pub changeRules : Roster → ViewRecord → ℕ → View → ℕ → List Rule
 changeRules r v site view mask =
     sender r site gives Sender ∷

@@ -76,14 +76,14 @@ fn on_suspicion(r: Roster, v: ViewRecord, site: u8, view: View) -> Answer
     let present = v.view;
     let nobody = unknown(r, site);
     let stale = !view.equals(present);
-    let last = full(r, v, site);
+    let passes = full(r, v, site);
     given(
         nobody,
         Refusal::Sender,
         given(
             stale,
             Refusal::Stale,
-            given(last, Refusal::Full, Answer::Accepted),
+            given(passes, Refusal::Full, Answer::Accepted),
         ),
     )
 }

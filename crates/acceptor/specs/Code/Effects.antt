@@ -5,6 +5,7 @@ use mathlib.Core.List.{List, _∷_}
 use Prim.Native.Nat.{ℕ, _≤_}
 use lib.Dec.{eqb}
 use lib.ListN.{length, take}
+use Rattle.words.specs.Sizes.{capacity}
 use Rattle.roster.specs.declared.Roster.{Roster}
 use Rattle.refusal.specs.declared.Refusal.the-variants.{Config, Form}
 use Rattle.refusal.specs.Rules.{Rule, _gives_}
@@ -25,8 +26,8 @@ rulesOn r own room v s d = config r own room v s gives Config ∷ not (d .found)
 -- entry
 pub record Performable (r : Roster) (n kind : ℕ) (held entry h : List ℕ) : Type 0 where
   pub few-sites : r .n ≤ 16
-  pub short : n ≤ 32
-  pub fits : eqb kind 4 ≡ true → length (appended held h) ≤ 32
+  pub short : n ≤ capacity
+  pub fits : eqb kind 4 ≡ true → length (appended held h) ≤ capacity
   pub agrees : (eqb kind 1 || eqb kind 2) ≡ false → (eqb kind 4 || eqb kind 5) ≡ false → contradicts entry h ≡ false
 
 -- the history that a frame with h asks to sign: with what is held, if it is a request

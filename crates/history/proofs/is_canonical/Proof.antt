@@ -6,7 +6,7 @@ use mathlib.Core.Path.{_≡_, sym, _∙_}
 use borrow.Author.Needs.{needs}
 use lib.ListN.{length, take, drop}
 use Rattle.history.specs.History.{isCanonical}
-use Rattle.history.specs.Insertion.{stays, Bounded, none}
+use Rattle.history.specs.Code.Insertion.{stays, Bounded, none}
 use Rattle.history.specs.InsertionLaws.{stays-canonical}
 use Rattle.history.proofs.Scans.{stays-stop, stays-more, stays-end}
 use Rattle.history.proofs.Turns.{bounded-next}

@@ -4,7 +4,7 @@ use Prim.Native.Nat.{_≤_}
 use native.Mathlib.Omega.{arith}
 use mathlib.Core.Path.{_≡_, sym, refl, _∙_}
 use borrow.Author.Needs.{needs}
-use Rattle.history.specs.Insertion.{walk}
+use Rattle.history.specs.Code.Insertion.{walk}
 use Rattle.history.specs.InsertionLaws.{walk-place}
 use Rattle.history.proofs.Scans.{walk-stop, walk-before, walk-past, walk-end}
 use Rattle.history.proofs.place.Statement.{statement}

@@ -6,7 +6,7 @@ use mathlib.Core.Path.{sym, _∙_}
 use borrow.Author.Needs.{needs}
 use lib.ListN.{length}
 use Rattle.history.specs.History.{canonical}
-use Rattle.history.specs.Insertion.{none}
+use Rattle.history.specs.Code.Insertion.{none}
 use Rattle.history.specs.InsertionLaws.{arrange-canonical}
 use Rattle.history.proofs.Turns.{Arranging, arrange-turn, arrange-end}
 use Rattle.history.proofs.put_in_order.Statement.{statement}
