@@ -6,7 +6,8 @@ docs/TRACE.md   each link `[`NAME`](FILE)` names something that FILE declares; e
 docs/TRUST.md   the table of definitions is what the contracts of the exported functions and the claim of agreement reach, with its line counts.
 README.md       the map of crates has a row for each line of crates.txt.
 All pages       a law that is named in backticks is declared somewhere.
-All files       each opens with a comment that says what it is for; an edit has one name in must-fail/ and wrong/, and changes no proof.
+All files       each opens with a comment that says what it is for; an edit has one name in must-fail/ and wrong/, changes no proof, and each
+                text that it replaces is there once.
 
 `evidence.py --trust` prints the table of docs/TRUST.md."""
 import re
@@ -14,6 +15,8 @@ import sys
 from collections import defaultdict
 from functools import lru_cache
 from pathlib import Path
+
+from edits import edited
 
 ROOT = Path(__file__).resolve().parent.parent
 CRATES = ROOT / 'crates'
@@ -311,6 +314,8 @@ def edits():
             faults.append('%s does not say which wrong program it is' % shown(path))
         if any(line.startswith('file: proofs/') for line in lines_of(path)):
             faults.append('%s changes a proof, which shows nothing' % shown(path))
+        elif edited(path, path.parent.parent)[1]:
+            faults.append('%s does not fit: %s' % (shown(path), edited(path, path.parent.parent)[1]))
         if path.parent.name == 'wrong' and (path.parent.parent / 'must-fail' / path.name).exists():
             faults.append('%s is in must-fail/ too' % shown(path))
     return faults
