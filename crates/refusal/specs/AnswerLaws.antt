@@ -1,7 +1,7 @@
 -- Laws of answers: what `given` makes of a rule and of the answer of those after it; rules in tiers, of which the first that refuses answers; and what
 -- an answer says of the judgement by the same rules.
 use mathlib.Core.Path.{_≡_, refl, sym, ap, _∙_}
-use mathlib.Core.Bool.{Bool, true, false, cond, _||_, true≢false}
+use mathlib.Core.Bool.{Bool, true, false, cond, true≢false}
 use mathlib.Core.List.{List, [], _∷_, _++_}
 use Prim.Native.Nat.{ℕ}
 use native.Mathlib.Omega.{arith}
@@ -29,10 +29,6 @@ pub rule : (e : Refusal) (rules : List Rule) {x y : Answer} {t test : Bool} → 
     → x ≡ answer (test gives e ∷ rules)
 unfolding judged
 rule e rules p q f = p ∙ rw (q, f)
-
--- a test that is two
-pub either : {a b c d : Bool} → a ≡ b → c ≡ d → (a || c) ≡ (b || d)
-either e f = rw (e, f)
 
 -- ---- and in parts: x is the answer of the first rules, a, and t tells whether it refuses
 
