@@ -10,10 +10,9 @@
  *
  *   - Any bytes of the right size are a state. One with a fault that CONFIG
  *     names is refused; any other is used as it stands.
- *   - A call changes no byte of a record's padding, and a refused call changes no
- *     byte of the record. Of the fields this is proved, of the padding tested. (The
- *     padding of a record that a `_fresh` function returns is any bytes.)
- *   - A refused call (answer not 0) changes no byte of the buffer and sends nothing.
+ *   - A refused call (answer not 0) changes no byte of the record's fields and
+ *     none of the buffer, and sends nothing. (Padding between fields means
+ *     nothing and is not promised.)
  *   - An accepted call (answer 0) sends at most one line. It stands at the front
  *     of the buffer, `sent` bytes with its line feed and no zero after it; the
  *     bytes after it stay as they were.

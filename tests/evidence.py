@@ -3,8 +3,7 @@
 
 docs/TRACE.md   each link `[`NAME`](FILE)` names something that FILE declares; every public function is linked, and has a contract without
                 precondition; and a declaration that nothing uses is linked there too, as a theorem for the reader, or it is dead.
-docs/TRUST.md   the table of definitions is what the contracts of the exported functions and the claims below reach, with its line counts.
-Call lists      the contract of each exported function that stands in call lists is the relation that its law in CallLaws.antt supposes.
+docs/TRUST.md   the table of definitions is what the contracts of the exported functions and the claim of agreement reach, with its line counts.
 README.md       the map of crates has a row for each line of crates.txt.
 All pages       a law that is named in backticks is declared somewhere.
 All files       each opens with a comment that says what it is for; an edit has one name in must-fail/ and wrong/, changes no proof, and each
@@ -21,23 +20,14 @@ from edits import edited
 
 ROOT = Path(__file__).resolve().parent.parent
 CRATES = ROOT / 'crates'
-# what the definitions that must be believed are reached from: the exported functions' contracts, the agreement of learners, what a merge is, what
-# the program `learn` writes, and the statement about the samples
+# what the definitions that must be believed are reached from: the exported functions' contracts, the agreement of learners, what a merge is, and the
+# statement about the samples
 EXPORTS = 'crates/speckleewe/src/lib.rt'
 CLAIMS = (
     ('crates/agreement/specs/Agreement.antt', 'Claim'),
     ('crates/merge/specs/Merge.antt', 'IsMerge'),
-    ('crates/transcript/specs/Stream.antt', 'Transcribed'),
     ('crates/samples/specs/Samples.antt', 'samples'),
     ('crates/samples/specs/Samples.antt', 'AllHold'),
-)
-# the exported functions whose calls stand in the call lists of demand 3, each with the law that says so
-CALL_LAWS = CRATES / 'speckleewe' / 'specs' / 'CallLaws.antt'
-TIED = (
-    ('speckleewe_acceptor', 'acceptor-next'),
-    ('speckleewe_view_change', 'view-change-next'),
-    ('speckleewe_suspicion', 'suspicion-next'),
-    ('speckleewe_learner', 'learner-next'),
 )
 TOKEN = re.compile(r'[^\s(){}\[\];,`"⌜⌝λ]+')
 SIGNATURE = re.compile(r'^( *)(?:abbrev |unfoldable )?(?:pub )?([^\s:(){}|]+) :(?:\s|$)')
@@ -276,34 +266,6 @@ def trust():
     return [] if '\n'.join(trust_table()) in page else ['docs/TRUST.md: the table of definitions is not what `tests/evidence.py --trust` prints']
 
 
-# ---- the call lists
-
-def contract_relation(function):
-    """The relation of Outcomes.antt that the whole contract of an exported function is."""
-    head = next((text for name, _, text in functions(ROOT / EXPORTS) if name == function), '')
-    found = re.search(r'ensures \{ λ r\. ⌜ (\w+) [^⊎×→≡]*⌝ \}', head)
-    return found and settle(*imports(ROOT / EXPORTS)[0].get(found.group(1), (ROOT / EXPORTS, found.group(1))))
-
-
-def law_relation(law):
-    """The relation of Outcomes.antt that is the hypothesis of a law of CallLaws.antt, the last thing before what it claims."""
-    block = next((b for b in blocks(CALL_LAWS) if b.name == law), None)
-    text = '\n'.join(lines_of(CALL_LAWS)[block.start:block.end + 1]) if block else ''
-    found = re.search(r'→ (\w+) [^→]*→ Next', text)
-    return found and settle(*imports(CALL_LAWS)[0].get(found.group(1), (CALL_LAWS, found.group(1))))
-
-
-def tied():
-    """Each call that stands in call lists has for its contract what the law that puts it there supposes."""
-    faults = []
-    for function, law in TIED:
-        contract, supposed = contract_relation(function), law_relation(law)
-        if not contract or contract != supposed:
-            says, has = (found[1] if found else 'no relation alone' for found in (contract, supposed))
-            faults.append('%s: the contract of %s is %s, but %s of %s supposes %s' % (EXPORTS, function, says, law, shown(CALL_LAWS), has))
-    return faults
-
-
 # ---- README.md and the files
 
 def readme():
@@ -363,7 +325,7 @@ def main():
     if '--trust' in sys.argv:
         print('\n'.join(trust_table()))
         return
-    faults = trace() + trust() + tied() + readme() + laws() + openings() + edits()
+    faults = trace() + trust() + readme() + laws() + openings() + edits()
     for fault in faults:
         print(fault)
     print('evidence: %s' % ('%d faults' % len(faults) if faults else 'the pages say what is there'))

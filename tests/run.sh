@@ -47,14 +47,14 @@ gate
 pass python3 tests/axioms.py
 python3 tests/wrong_programs.py | tee "$log"
 passed=$((passed + $(count '^\([0-9]*\) refused, 0 failed$')))
+pass python3 tests/tables/site_lines.py --check crates/site_lines
 pass tests/learn.sh target/bin/learn
 pass rt staticlib speckleewe
 library=target/staticlib/libspeckleewe.a
-pass tests/layout/run.sh $library
+pass tests/layout/run.sh
 pass tests/symbols.sh $library
 pass python3 tests/stack.py $library
 pass tests/example.sh $library
-pass tests/site_lines/run.sh $library
 pass tests/fuzz/run.sh $library
 pass tests/model/run.sh $library --self
 for role in learner viewchange acceptor leader; do

@@ -1,9 +1,9 @@
 #!/usr/bin/env python3
-"""The table that tests/site_lines hands to the library: frames for one site, and ballots that its host opens, each with the answer and the
+"""The table that the program `site_lines` runs: frames handed to one site, and ballots that its host opens, each with the answer and the
 frame sent that document 01 asks for.
 
-    site_lines.py FOLDER            writes FOLDER/stdin and FOLDER/stdout
-    site_lines.py --check FOLDER    fails if these files are not the table's
+    site_lines.py CRATE            writes CRATE/stdin and CRATE/stdout
+    site_lines.py --check CRATE    fails if these files are not the table's
 
 Each row has what document 01 says, the line handed in, the answer, and the frame that goes out, if any. The answers were written by hand
 from document 01, not taken from a run.

@@ -4,9 +4,9 @@ use mathlib.Core.Bool.{Bool, true, false, ◌||◌, false≢true}
 use mathlib.Core.List.{List, ◌++◌}
 use Prim.Native.Nat.{ℕ, ◌≤◌}
 use native.Mathlib.Omega.{arith}
-use borrow.Author.Tests.{not-false, eqb-true}
+use borrow.Author.Tests.{not-false, eqb-true, ltb-false}
 use lib.Dec.{eqb}
-use lib.ListN.{length, take, drop}
+use lib.ListN.{length, take, drop, length-take}
 use lib.Seq.{length-take-le, take-append_seam}
 use Rattle.basics.specs.Bools.{and_left, or_left, or_right}
 use Rattle.roster.specs.declared.Roster.{Roster}
@@ -16,12 +16,13 @@ use Rattle.history.specs.CanonicalLaws.{canonical_length}
 use Rattle.history.specs.Words.{limit, padded, extends_within}
 use Rattle.words.specs.WordsLaws.{take_padded}
 use Rattle.history.specs.WordsLaws.{extends_within_lem}
-use Rattle.merge.specs.Merge.{appended_in}
+use Rattle.merge.specs.Merge.{appended, appended_in}
+use Rattle.merge.specs.Appending.{overflows}
 use Rattle.merge.specs.AppendingLaws.{appended_in_work, take_appended, append_bound}
 use Rattle.table.specs.declared.Table.{Table}
 use Rattle.table.specs.Table.{row_of}
 use Rattle.refusal.specs.declared.Refusal.{Refusal}
-use Rattle.refusal.specs.declared.Refusal.TheVariants.{Config, Contradiction}
+use Rattle.refusal.specs.declared.Refusal.TheVariants.{Config, Contradiction, Full}
 use Rattle.refusal.specs.declared.Answer.{Answer}
 use Rattle.refusal.specs.declared.Answer.TheVariants.{Accepted}
 use Rattle.refusal.specs.Refusal.{is_refused}
@@ -29,9 +30,8 @@ use Rattle.refusal.specs.Rules.{answer}
 use Rattle.refusal.specs.AnswerLaws.{judged_refused, judged_accepted, answer_none}
 use Rattle.refusal.specs.JudgedLaws.{NoneHolds, test_of, no_test}
 use Rattle.frame.specs.declared.Frame.{Frame}
-use Rattle.frame.specs.declared.Head.{Head}
+use Rattle.frame.specs.declared.Heading.{Heading}
 use Rattle.frame.specs.declared.Reading.{Reading}
-use Rattle.frame.specs.Kinds as kinds
 use Rattle.frame.specs.Format.{reading_of, reading_with, frame_with, malformed}
 use Rattle.frame.specs.FormatLaws.{read_n}
 use Rattle.site.specs.declared.ViewRecord.{ViewRecord}
@@ -40,8 +40,8 @@ use Rattle.site.specs.SiteLaws.{seated_is}
 use Rattle.site.specs.Reply.{Reply, Handed, refuse, sends}
 use Rattle.acceptor.specs.declared.State.{State}
 use Rattle.acceptor.specs.declared.Outcome.{Outcome}
-use Rattle.acceptor.specs.Acceptor.{kind_of, taken, received, carried, held_of, proven_of, marks_of, config, rules, opening, sign, p2b, certificate_of, convinces, proves, storing, proving, store, verifying, accepted, step}
-use Rattle.acceptor.specs.Code.Effects.{United, rules_on, opens, signs, Performable, asked, Done}
+use Rattle.acceptor.specs.Acceptor.{kind_of, taken, received, carried, held_of, proven_of, marks_of, config, rules, opening, sign, lengthened, p2b, certificate_of, convinces, proves, storing, proving, store, verifying, accepted, step}
+use Rattle.acceptor.specs.Code.Effects.{United, rules_on, Performable, asked, Done}
 
 -- the code's test of extension, of a list of at most 32 commands
 pub extends_is : (h g : List ℕ) (b : Bool) → length h ≤ 32 → b ≡ extends_within 64 h g → extends h g ≡ b
@@ -99,33 +99,42 @@ module _ (r : Roster) (own : ℕ) (s : State) (t : Table) (h out : List ℕ) (ma
 -- ---- an accepted frame, by its kind as the code tells it
 
 module _ (r : Roster) (own : ℕ) (v : ViewRecord) (s : State) (m : Frame) where
-  pub accepts_opening : opens m.heading.kind ≡ true → accepted (kind_of m.heading.kind) r own v s m ≡ opening (eqb m.heading.kind kinds.FAST) own s m.heading.ballot
-  accepts_opening e = go (eqb m.heading.kind kinds.P1A) (eqb m.heading.kind kinds.FAST) refl refl e
+  pub accepts_opening : (eqb m.kind 1 || eqb m.kind 2) ≡ true → accepted (kind_of m.kind) r own v s m ≡ opening (eqb m.kind 2) own s m.ballot
+  accepts_opening e = go (eqb m.kind 1) (eqb m.kind 2) refl refl e
     where
-      go : (a b : Bool) → eqb m.heading.kind kinds.P1A ≡ a → eqb m.heading.kind kinds.FAST ≡ b → (a || b) ≡ true → accepted (kind_of m.heading.kind) r own v s m ≡ opening b own s m.heading.ballot
-      go true true p q e = absurd (one_kind m.heading.kind kinds.P1A kinds.FAST p q (λ x. omega arith))
+      go : (a b : Bool) → eqb m.kind 1 ≡ a → eqb m.kind 2 ≡ b → (a || b) ≡ true → accepted (kind_of m.kind) r own v s m ≡ opening b own s m.ballot
+      go true true p q e = absurd (one_kind m.kind 1 2 p q (λ x. omega arith))
       go true false p q e = rw p
       go false true p q e = rw (p, q)
       go false false p q e = absurd (false≢true e)
 
-  pub accepts_signing : opens m.heading.kind ≡ false → signs m.heading.kind ≡ true
-      → accepted (kind_of m.heading.kind) r own v s m ≡ sign own v s (asked (eqb m.heading.kind kinds.PROPOSE) (held_of s) (carried m))
-  accepts_signing n e = go (eqb m.heading.kind kinds.PROPOSE) (eqb m.heading.kind kinds.P2A) refl refl e
+  pub accepts_signing : (eqb m.kind 1 || eqb m.kind 2) ≡ false → (eqb m.kind 4 || eqb m.kind 5) ≡ true
+      → accepted (kind_of m.kind) r own v s m ≡ sign own v s (asked (eqb m.kind 4) (held_of s) (carried m))
+  accepts_signing n e = go (eqb m.kind 4) (eqb m.kind 5) refl refl e
     where
-      go : (a b : Bool) → eqb m.heading.kind kinds.PROPOSE ≡ a → eqb m.heading.kind kinds.P2A ≡ b → (a || b) ≡ true
-          → accepted (kind_of m.heading.kind) r own v s m ≡ sign own v s (asked a (held_of s) (carried m))
-      go true b p q e = rw (or_left (eqb m.heading.kind kinds.P1A) _ n, or_right (eqb m.heading.kind kinds.P1A) _ n, p)
-      go false true p q e = rw (or_left (eqb m.heading.kind kinds.P1A) _ n, or_right (eqb m.heading.kind kinds.P1A) _ n, p, q)
+      go : (a b : Bool) → eqb m.kind 4 ≡ a → eqb m.kind 5 ≡ b → (a || b) ≡ true
+          → accepted (kind_of m.kind) r own v s m ≡ sign own v s (asked a (held_of s) (carried m))
+      go true b p q e = rw (or_left (eqb m.kind 1) _ n, or_right (eqb m.kind 1) _ n, p)
+      go false true p q e = rw (or_left (eqb m.kind 1) _ n, or_right (eqb m.kind 1) _ n, p, q)
       go false false p q e = absurd (false≢true e)
 
-  pub accepts_verify : opens m.heading.kind ≡ false → signs m.heading.kind ≡ false
-      → accepted (kind_of m.heading.kind) r own v s m ≡ verifying r own s m.heading.sender (carried m)
+  pub accepts_verify : (eqb m.kind 1 || eqb m.kind 2) ≡ false → (eqb m.kind 4 || eqb m.kind 5) ≡ false
+      → accepted (kind_of m.kind) r own v s m ≡ verifying r own s m.sender (carried m)
   accepts_verify n e =
-      rw (or_left (eqb m.heading.kind kinds.P1A) _ n, or_right (eqb m.heading.kind kinds.P1A) _ n, or_left (eqb m.heading.kind kinds.PROPOSE) _ e, or_right (eqb m.heading.kind kinds.PROPOSE) _ e)
+      rw (or_left (eqb m.kind 1) _ n, or_right (eqb m.kind 1) _ n, or_left (eqb m.kind 4) _ e, or_right (eqb m.kind 4) _ e)
+
+-- what it asks to sign has at most 32 commands
+pub asked_short : (r : Roster) (n kind : ℕ) (held entry w : List ℕ) → Performable r n kind held entry (take n w) → length (asked (eqb kind 4) held (take n w)) ≤ 32
+unfolding lengthened
+asked_short r n kind held entry w p = go (eqb kind 4) p.fits
+  where
+    go : (b : Bool) → (b ≡ true → length (appended held (take n w)) ≤ 32) → length (asked b held (take n w)) ≤ 32
+    go true f = rw canonical_length (f refl)
+    go false f = rw length-take (omega (arith, p.short))
 
 -- ---- a line: head and w are what was read of it, x is the answer, and t tells whether it refuses
 
-module _ (r : Roster) (own : ℕ) (v : ViewRecord) (s : State) (line out : List ℕ) (head : Head) (w : List ℕ) (x : Answer) (t : Bool)
+module _ (r : Roster) (own : ℕ) (v : ViewRecord) (s : State) (line out : List ℕ) (head : Heading) (w : List ℕ) (x : Answer) (t : Bool)
     (f : reading_with head w ≡ reading_of limit line taken) (e : x ≡ answer (rules_on r own (length out) v s (reading_with head w))) (g : t ≡ is_refused x) where
   answer_is : x ≡ answer (rules r own (length out) v s line)
   unfolding malformed
@@ -134,19 +143,19 @@ module _ (r : Roster) (own : ℕ) (v : ViewRecord) (s : State) (line out : List 
   pub steps_refused : t ≡ true → Done (step r own (length out) v s line) out (record { answer = x; sent = 0; state = s }) out
   unfolding step
   steps_refused h =
-      judged_refused (refuse s) (accepted (kind_of (received line).heading.kind) r own v s (received line)) (rules r own (length out) v s line) x answer_is (sym g ∙ h)
+      judged_refused (refuse s) (accepted (kind_of (received line).kind) r own v s (received line)) (rules r own (length out) v s line) x answer_is (sym g ∙ h)
       (λ (a : Answer) (o : Reply State). Done o out (record { answer = a; sent = 0; state = s }) out) (λ (e : Refusal). (refl, refl))
 
-  pub steps_accepted : t ≡ false → (o : Outcome) (l : List ℕ) → Done (accepted (kind_of head.heading.kind) r own v s (frame_with head w)) out o l
+  pub steps_accepted : t ≡ false → (o : Outcome) (l : List ℕ) → Done (accepted (kind_of head.kind) r own v s (frame_with head w)) out o l
       → Done (step r own (length out) v s line) out o l
   unfolding step
   steps_accepted h o l d =
-      rw (judged_accepted (refuse s) (accepted (kind_of (received line).heading.kind) r own v s (received line)) (rules r own (length out) v s line) x answer_is (sym g ∙ h))
-      (subst (λ (a : Reading). Done (accepted (kind_of a.frame.heading.kind) r own v s a.frame) out o l) f d)
+      rw (judged_accepted (refuse s) (accepted (kind_of (received line).kind) r own v s (received line)) (rules r own (length out) v s line) x answer_is (sym g ∙ h))
+      (subst (λ (a : Reading). Done (accepted (kind_of a.frame.kind) r own v s a.frame) out o l) f d)
 
   -- what the effect needs: no rule holds
-  pub performable : t ≡ false → Performable r head.n head.heading.kind (row_of s.verified head.heading.sender) (take head.n w)
-  unfolding config test_of
+  pub performable : t ≡ false → Performable r head.n head.kind (held_of s) (row_of s.verified head.sender) (take head.n w)
+  unfolding config test_of overflows
   performable h =
       let m = frame_with head w in
       let none : NoneHolds (rules_on r own (length out) v s (reading_with head w)) = answer_none (rules_on r own (length out) v s (reading_with head w)) x e (sym g ∙ h) in
@@ -154,6 +163,7 @@ module _ (r : Roster) (own : ℕ) (v : ViewRecord) (s : State) (line out : List 
       record {
         few_sites = (valid_figures r (seated_is r own (length out) (and_left (seated r own (length out)) _ (not-false _ fit))).roster).max_sites;
         short = rw (ap (λ (o : Reading). o.frame.n) f) (read_n limit line taken);
+        fits = λ k. ltb-false 32 _ (no_test (rw (eqb-true head.kind 4 k) at none) Full);
         agrees = λ n e.
-            no_test (rw (or_left (eqb head.heading.kind kinds.P1A) _ n, or_right (eqb head.heading.kind kinds.P1A) _ n, or_left (eqb head.heading.kind kinds.PROPOSE) _ e, or_right (eqb head.heading.kind kinds.PROPOSE) _ e) at none) Contradiction;
+            no_test (rw (or_left (eqb head.kind 1) _ n, or_right (eqb head.kind 1) _ n, or_left (eqb head.kind 4) _ e, or_right (eqb head.kind 4) _ e) at none) Contradiction;
       }

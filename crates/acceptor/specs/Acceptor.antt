@@ -16,13 +16,12 @@ use Rattle.table.specs.Table.{row_of, stored_at, empty_table, valid_table}
 use Rattle.refusal.specs.declared.Refusal.TheVariants.{Config, Form, Sender, Stale, Behind, Contradiction}
 use Rattle.refusal.specs.Rules.{Rule, ◌gives◌, judged}
 use Rattle.content.specs.Content.{history_rules, request_rules, append_rules, contradicts}
-use Rattle.frame.specs.declared.Heading.{Heading}
 use Rattle.frame.specs.declared.Frame.{Frame}
-use Rattle.frame.specs.Kinds as kinds
 use Rattle.frame.specs.Layout.{first}
-use Rattle.frame.specs.Format.{reading_of, malformed, message}
+use Rattle.frame.specs.Format.{reading_of, malformed}
 use Rattle.site.specs.declared.ViewRecord.{ViewRecord}
 use Rattle.site.specs.Site.{seated, valid_record, is_set}
+use Rattle.site.specs.Message.{message}
 use Rattle.site.specs.Reply.{silent, sends, sends_if, Reply, refuse, accept, length_sent, buffer}
 use Rattle.acceptor.specs.declared.State.{State}
 use Rattle.acceptor.specs.declared.Marks.{Marks}
@@ -62,7 +61,7 @@ fresh =
 
 -- the last VERIFY of a frame's sender
 abbrev pub entry_of : State → Frame → List ℕ
-entry_of s m = row_of s.verified m.heading.sender
+entry_of s m = row_of s.verified m.sender
 
 -- ---- the frames that an acceptor takes
 
@@ -75,12 +74,11 @@ pub data Kind : Type 0 where
 
 -- the kind of a number of `taken`
 abbrev pub kind_of : ℕ → Kind
-kind_of k =
-    cond (eqb k kinds.P1A) P1A (cond (eqb k kinds.FAST) FAST (cond (eqb k kinds.PROPOSE) PROPOSE (cond (eqb k kinds.P2A) P2A VERIFY)))
+kind_of k = cond (eqb k 1) P1A (cond (eqb k 2) FAST (cond (eqb k 4) PROPOSE (cond (eqb k 5) P2A VERIFY)))
 
--- the kinds that are taken
+-- 1 P1A, 2 FAST, 4 PROPOSE, 5 P2A, 6 VERIFY as a set of kinds: kind k is bit k
 abbrev pub taken : ℕ
-taken = kinds.set_of (kinds.P1A ∷ kinds.FAST ∷ kinds.PROPOSE ∷ kinds.P2A ∷ kinds.VERIFY ∷ [])
+taken = 118
 
 -- the frame that a line holds, and the history that it carries
 abbrev pub received : List ℕ → Frame
@@ -96,7 +94,7 @@ not_leader r site view = leb r.n site || not (eqb site (leader_of r view))
 -- ---- P1A and FAST
 
 -- "view equal, ballot greater than its own, else STALE"
-abbrev pub opening_rules : Roster → View → Marks → Heading → List Rule
+abbrev pub opening_rules : Roster → View → Marks → Frame → List Rule
 opening_rules r view k m =
     not_leader r m.sender m.view gives Sender ∷
     not (same_view m.view view && later_ballot m.ballot k.ballot) gives Stale ∷ []
@@ -108,10 +106,7 @@ in_ballot s ballot fast =
 
 -- P1B, with the proven history, its ballot and mask, and the held one
 abbrev pub p1b : ℕ → State → Ballot → Frame
-p1b own s ballot =
-    message
-    (record { kind = kinds.P1B; sender = own; view = record { 0 = 0 }; ballot = ballot; proven_ballot = s.proven_ballot; mask = s.certificate })
-    (proven_of s) (held_of s)
+p1b own s ballot = message 3 own (record { 0 = 0 }) ballot s.proven_ballot s.certificate (proven_of s) (held_of s)
 
 -- "P1A answers P1B; FAST answers nothing."
 unfoldable pub opening : Bool → ℕ → State → Ballot → Reply State
@@ -121,8 +116,7 @@ opening fast own s ballot = accept (in_ballot s ballot (cond fast 1 0)) (sends_i
 
 -- VERIFY of h in the present view and ballot
 abbrev pub verify : ℕ → ViewRecord → State → List ℕ → Frame
-verify own v s h =
-    message (record { kind = kinds.VERIFY; sender = own; view = v.view; ballot = s.ballot; proven_ballot = record { 0 = 0 }; mask = 0 }) h []
+verify own v s h = message 6 own v.view s.ballot (record { 0 = 0 }) 0 h []
 
 abbrev pub signing : ℕ → State → List ℕ → State
 signing own s h =
@@ -136,7 +130,7 @@ sign own v s h = accept (signing own s h) (sends (verify own v s h))
 -- ---- P2A of h
 
 -- "view and ballot equal and classic, else STALE"
-abbrev pub order_heading : Roster → View → Marks → Heading → List Rule
+abbrev pub order_heading : Roster → View → Marks → Frame → List Rule
 order_heading r view k m =
     not_leader r m.sender m.view gives Sender ∷
     not (same_view m.view view && (same_ballot m.ballot k.ballot && eqb k.fast 0)) gives Stale ∷ []
@@ -145,19 +139,19 @@ order_heading r view k m =
 unfoldable pub lags : ℕ → List ℕ → List ℕ → List ℕ → Bool
 lags signed held proven h = not (extends h proven) || (is_set signed && not (extends h held))
 
-abbrev pub order_rules : Roster → View → Marks → List ℕ → List ℕ → Heading → List ℕ → List Rule
+abbrev pub order_rules : Roster → View → Marks → List ℕ → List ℕ → Frame → List ℕ → List Rule
 order_rules r view k held proven m h = order_heading r view k m ++ (history_rules h ++ (lags k.signed held proven h gives Behind ∷ []))
 
 -- ---- PROPOSE of h
 
 -- "PROPOSE instead: sender 0"; "ballot equal and fast, else STALE"
-abbrev pub propose_heading : Marks → Heading → List Rule
+abbrev pub propose_heading : Marks → Frame → List Rule
 propose_heading k m =
     eqb m.sender 0 gives Sender ∷
     not (same_ballot m.ballot k.ballot && is_set k.fast) gives Stale ∷ []
 
 -- "The held history must extend the proven one (BEHIND)"; REUSED, NOTHING and FULL against what is held
-abbrev pub propose_rules : Marks → List ℕ → List ℕ → Heading → List ℕ → List Rule
+abbrev pub propose_rules : Marks → List ℕ → List ℕ → Frame → List ℕ → List Rule
 propose_rules k held proven m h =
     propose_heading k m
     ++ (request_rules m.sender h
@@ -170,12 +164,12 @@ lengthened held h = canonical (appended held h)
 -- ---- VERIFY of h
 
 -- "sender ≥ N"; "view and ballot equal"
-abbrev pub verify_heading : Roster → View → Marks → Heading → List Rule
+abbrev pub verify_heading : Roster → View → Marks → Frame → List Rule
 verify_heading r view k m =
     leb r.n m.sender gives Sender ∷
     not (same_view m.view view && same_ballot m.ballot k.ballot) gives Stale ∷ []
 
-abbrev pub verify_rules : Roster → View → Marks → List ℕ → Heading → List ℕ → List Rule
+abbrev pub verify_rules : Roster → View → Marks → List ℕ → Frame → List ℕ → List Rule
 verify_rules r view k entry m h = verify_heading r view k m ++ (history_rules h ++ (contradicts entry h gives Contradiction ∷ []))
 
 -- whether an entry equals it, and the mask of those that do
@@ -203,8 +197,7 @@ proving s t mask h =
 
 -- P2B of h in the present ballot, with the mask of its certificate
 abbrev pub p2b : ℕ → State → ℕ → List ℕ → Frame
-p2b own s mask h =
-    message (record { kind = kinds.P2B; sender = own; view = record { 0 = 0 }; ballot = s.ballot; proven_ballot = record { 0 = 0 }; mask = mask }) h []
+p2b own s mask h = message 7 own (record { 0 = 0 }) s.ballot (record { 0 = 0 }) mask h []
 
 -- "it becomes proven and a P2B goes out, its mask those entries. Otherwise no answer."
 unfoldable pub store : Roster → ℕ → State → Table → List ℕ → Reply State
@@ -234,31 +227,31 @@ form line = malformed limit line taken
 
 -- the checks of a frame of a kind
 abbrev pub frame_rules : Kind → Roster → View → Marks → List ℕ → List ℕ → List ℕ → Frame → List Rule
-frame_rules P1A r view k held proven entry m = opening_rules r view k m.heading
-frame_rules FAST r view k held proven entry m = opening_rules r view k m.heading
-frame_rules PROPOSE r view k held proven entry m = propose_rules k held proven m.heading (carried m)
-frame_rules P2A r view k held proven entry m = order_rules r view k held proven m.heading (carried m)
-frame_rules VERIFY r view k held proven entry m = verify_rules r view k entry m.heading (carried m)
+frame_rules P1A r view k held proven entry m = opening_rules r view k m
+frame_rules FAST r view k held proven entry m = opening_rules r view k m
+frame_rules PROPOSE r view k held proven entry m = propose_rules k held proven m (carried m)
+frame_rules P2A r view k held proven entry m = order_rules r view k held proven m (carried m)
+frame_rules VERIFY r view k held proven entry m = verify_rules r view k entry m (carried m)
 
 -- the checks of a frame in a state, and all checks of a line
 abbrev pub rules_in : Roster → ViewRecord → State → Frame → List Rule
-rules_in r v s m = frame_rules (kind_of m.heading.kind) r v.view (marks_of s) (held_of s) (proven_of s) (entry_of s m) m
+rules_in r v s m = frame_rules (kind_of m.kind) r v.view (marks_of s) (held_of s) (proven_of s) (entry_of s m) m
 
 abbrev pub rules : Roster → ℕ → ℕ → ViewRecord → State → List ℕ → List Rule
 rules r own room v s line = config r own room v s gives Config ∷ form line gives Form ∷ rules_in r v s (received line)
 
 -- what an accepted frame of a kind does
 abbrev pub accepted : Kind → Roster → ℕ → ViewRecord → State → Frame → Reply State
-accepted P1A r own v s m = opening false own s m.heading.ballot
-accepted FAST r own v s m = opening true own s m.heading.ballot
+accepted P1A r own v s m = opening false own s m.ballot
+accepted FAST r own v s m = opening true own s m.ballot
 accepted PROPOSE r own v s m = sign own v s (lengthened (held_of s) (carried m))
 accepted P2A r own v s m = sign own v s (carried m)
-accepted VERIFY r own v s m = verifying r own s m.heading.sender (carried m)
+accepted VERIFY r own v s m = verifying r own s m.sender (carried m)
 
 -- what a call does; `room` is the length of the lent buffer, and the view is that of the view-change record v
 unfoldable pub step : Roster → ℕ → ℕ → ViewRecord → State → List ℕ → Reply State
 step r own room v s line =
-    judged (refuse s) (accepted (kind_of (received line).heading.kind) r own v s (received line)) (rules r own room v s line)
+    judged (refuse s) (accepted (kind_of (received line).kind) r own v s (received line)) (rules r own room v s line)
 
 -- of a call with this buffer lent to it: what it returns, and the buffer that it leaves
 abbrev pub outcome : Reply State → List ℕ → Outcome

@@ -18,7 +18,6 @@ use Rattle.refusal.specs.Rules.{◌gives◌}
 use Rattle.refusal.specs.Order.{in_order, follows}
 use Rattle.refusal.specs.JudgedLaws.{GivenFirst, NoneHolds, pass, Judgement, refused, accepts, judgement}
 use Rattle.frame.specs.declared.Frame.{Frame}
-use Rattle.frame.specs.Kinds as kinds
 use Rattle.frame.specs.Layout.{first}
 use Rattle.frame.specs.FormatLaws.{read_n}
 use Rattle.site.specs.declared.ViewRecord.{ViewRecord}
@@ -69,7 +68,7 @@ use Rattle.acceptor.specs.Acceptor.{
 
 -- the kind of the frame that a line holds
 abbrev kind_in : List ℕ → Kind
-kind_in line = kind_of (received line).heading.kind
+kind_in line = kind_of (received line).kind
 
 -- an accepted frame: no check applies
 pub record Accepts (r : Roster) (own room : ℕ) (v : ViewRecord) (s : State) (line : List ℕ) : Type 0 where
@@ -108,12 +107,12 @@ rules_follow r own room v s line = go (kind_in line)
 
 -- the table with a VERIFY stored in it
 abbrev pub verified_by : State → Frame → Table
-verified_by s m = stored_at s.verified m.heading.sender (carried m)
+verified_by s m = stored_at s.verified m.sender (carried m)
 
 -- what an accepted frame does: a ballot is opened, a history is signed, a VERIFY proves its history, is stored only, or has no effect
 pub data Effect (r : Roster) (own : ℕ) (v : ViewRecord) (s : State) (m : Frame) : Reply State → Type 0 where
-  opens_classic : Effect r own v s m (accept (in_ballot s m.heading.ballot 0) (sends (p1b own s m.heading.ballot)))
-  opens_fast : Effect r own v s m (accept (in_ballot s m.heading.ballot 1) silent)
+  opens_classic : Effect r own v s m (accept (in_ballot s m.ballot 0) (sends (p1b own s m.ballot)))
+  opens_fast : Effect r own v s m (accept (in_ballot s m.ballot 1) silent)
   signs : (h : List ℕ) → Effect r own v s m (accept (signing own s h) (sends (verify own v s h)))
   proves_it : proves r s (verified_by s m) (carried m) ≡ true
       → Effect r own v s m
@@ -172,14 +171,14 @@ proven_grows r own room v s line = go (stepped r own room v s line)
 
 -- a P1B, VERIFY or P2B from `own`; a P2B carries the history that is proven in state s
 pub record Message (own : ℕ) (s : State) (m : Frame) : Type 0 where
-  pub kind : (m.heading.kind ≡ kinds.P1B) ⊎ ((m.heading.kind ≡ kinds.VERIFY) ⊎ (m.heading.kind ≡ kinds.P2B))
-  pub sender : m.heading.sender ≡ own
-  pub vote : m.heading.kind ≡ kinds.P2B → first m ≡ proven_of s
+  pub kind : (m.kind ≡ 3) ⊎ ((m.kind ≡ 6) ⊎ (m.kind ≡ 7))
+  pub sender : m.sender ≡ own
+  pub vote : m.kind ≡ 7 → first m ≡ proven_of s
 
 effect_sends : {r : Roster} {own : ℕ} {v : ViewRecord} {s : State} {m : Frame} {o : Reply State} → length (carried m) ≤ limit → Effect r own v s m o
     → {x : Frame} → o.sending ≡ sends x → Message own o.state x
 effect_sends {own = own} {s = s} {m = m} l opens_classic h =
-    subst (Message own (in_ballot s m.heading.ballot 0)) (sends_same h) (record { kind = inl refl; sender = refl; vote = λ e. absurd (omega arith) })
+    subst (Message own (in_ballot s m.ballot 0)) (sends_same h) (record { kind = inl refl; sender = refl; vote = λ e. absurd (omega arith) })
 effect_sends l opens_fast h = absurd (silent_sends h)
 effect_sends {own = own} {s = s} l (signs g) h =
     subst (Message own (signing own s g)) (sends_same h) (record { kind = inr (inl refl); sender = refl; vote = λ e. absurd (omega arith) })

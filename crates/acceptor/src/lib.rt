@@ -15,7 +15,7 @@ ghost use Rattle.acceptor.specs.Acceptor as spec;
 ghost use Rattle.acceptor.specs.Parts as parts;
 ghost use Rattle.acceptor.specs.Code.Effects as effects;
 
-use frame::Head;
+use frame::Heading;
 use history::History;
 use refusal::{Answer, Refusal, given};
 use roster::{Ballot, Roster, View};
@@ -68,12 +68,17 @@ pub struct Settled {
     pub marks: Marks,
 }
 
-// The kinds of frames that are taken.
-const TAKEN: u16 = 1 << frame::P1A
-    | 1 << frame::FAST
-    | 1 << frame::PROPOSE
-    | 1 << frame::P2A
-    | 1 << frame::VERIFY;
+// The kinds of frames taken; VERIFY is what is left of them.
+const P1A: u8 = 1;
+
+const FAST: u8 = 2;
+
+const PROPOSE: u8 = 4;
+
+const P2A: u8 = 5;
+
+// P1A, FAST, PROPOSE, P2A and VERIFY, which are bits 1, 2, 4, 5 and 6.
+const TAKEN: u16 = 118;
 
 // The answer to a frame with these words, by its kind.
 fn judge<'a>(
@@ -84,32 +89,31 @@ fn judge<'a>(
     proven: &'a [u64],
     words: &'a [u64],
     counts: &'a [u8],
-    head: Head,
+    head: Heading,
     all: &'a [u64],
 ) -> Answer
     requires { (length held.now ≤ capacity) × (head.n ≤ capacity) }
-    ensures { result ≡ answer (spec.frame_rules (spec.kind_of head.heading.kind) r view marks held.now proven.now (row words.now counts.now head.heading.sender) (frame_with head all.now)) }
+    ensures { result ≡ answer (spec.frame_rules (spec.kind_of head.kind) r view marks held.now proven.now (row words.now counts.now head.sender) (frame_with head all.now)) }
 {
-    let heading = head.heading;
-    let classic = heading.kind == frame::P1A;
+    let classic = head.kind == P1A;
     if classic {
-        return opening::check(r, view, marks, heading);
+        return opening::check(r, view, marks, head);
     }
-    let fast = heading.kind == frame::FAST;
+    let fast = head.kind == FAST;
     if fast {
-        return opening::check(r, view, marks, heading);
+        return opening::check(r, view, marks, head);
     }
     let h = history::first(all, head.n as usize);
-    let asks = heading.kind == frame::PROPOSE;
+    let asks = head.kind == PROPOSE;
     if asks {
-        return request::check(marks, held, proven, heading, h);
+        return request::check(marks, held, proven, head, h);
     }
-    let orders = heading.kind == frame::P2A;
+    let orders = head.kind == P2A;
     if orders {
-        return order::check(r, view, marks, held, proven, heading, h);
+        return order::check(r, view, marks, held, proven, head, h);
     }
-    let entry = table::row(words, counts, heading.sender as usize);
-    verify::check(r, view, marks, entry, heading, h)
+    let entry = table::row(words, counts, head.sender as usize);
+    verify::check(r, view, marks, entry, head, h)
 }
 
 // Whether the roster, the own number, the room, the record or the state is one that no step takes.
@@ -149,7 +153,7 @@ fn check<'a>(
     proven_count: u8,
     words: &'a [u64; 512],
     counts: &'a [u8; 16],
-    head: Head,
+    head: Heading,
     all: &'a [u64; frame::CAPACITY],
 ) -> Answer
     requires { head.n ≤ capacity }
@@ -200,7 +204,7 @@ fn perform(
     own: u8,
     v: ViewRecord,
     marks: Marks,
-    head: Head,
+    head: Heading,
     buf: &mut [u64; frame::CAPACITY],
     held: &mut [u64; words::CAPACITY],
     held_count: &mut u8,
@@ -210,18 +214,17 @@ fn perform(
     counts: &mut [u8; 16],
     out: &mut [u8],
 ) -> Settled
-    requires { effects.Performable r head.n head.heading.kind (row words.old counts.old head.heading.sender) (take head.n buf.old) }
-    ensures { effects.Done (spec.accepted (spec.kind_of head.heading.kind) r own v (parts.state_of marks held.old held_count.old proven.old proven_count.old words.old counts.old) (frame_with head buf.old)) out.old (parts.outcome_of result held.new held_count.new proven.new proven_count.new words.new counts.new) out.new }
+    requires { effects.Performable r head.n head.kind (take held_count.old held.old) (row words.old counts.old head.sender) (take head.n buf.old) }
+    ensures { effects.Done (spec.accepted (spec.kind_of head.kind) r own v (parts.state_of marks held.old held_count.old proven.old proven_count.old words.old counts.old) (frame_with head buf.old)) out.old (parts.outcome_of result held.new held_count.new proven.new proven_count.new words.new counts.new) out.new }
 {
-    let heading = head.heading;
-    let fast = heading.kind == frame::FAST;
-    let opens = (heading.kind == frame::P1A) | fast;
+    let fast = head.kind == FAST;
+    let opens = (head.kind == P1A) | fast;
     if opens {
         return opening::perform(
             fast,
             own,
             marks,
-            heading.ballot,
+            head.ballot,
             held,
             *held_count,
             proven,
@@ -231,8 +234,8 @@ fn perform(
             out,
         );
     }
-    let asks = heading.kind == frame::PROPOSE;
-    let signs = asks | (heading.kind == frame::P2A);
+    let asks = head.kind == PROPOSE;
+    let signs = asks | (head.kind == P2A);
     if signs {
         let n = request::prepare(asks, held, *held_count, head.n as usize, buf);
         let h = history::first(buf, n);
@@ -255,7 +258,7 @@ fn perform(
         r,
         own,
         marks,
-        heading.sender,
+        head.sender,
         h,
         held,
         *held_count,

@@ -1,7 +1,8 @@
 // P1A and FAST: a ballot is opened.
-ghost use Rattle.std.specs.Prelude.{cond, ◌≡◌};
+ghost use Rattle.std.specs.Prelude.{cond, [], ◌≡◌};
 ghost use Rattle.table.specs.Table.{empty_table, table_of};
 ghost use Rattle.refusal.specs.Rules.{answer};
+ghost use Rattle.frame.specs.Format.{frame_with};
 ghost use Rattle.acceptor.specs.Acceptor as spec;
 ghost use Rattle.acceptor.specs.Parts as parts;
 ghost use Rattle.acceptor.specs.Code.Effects as effects;
@@ -10,6 +11,8 @@ use super::{Marks, Settled};
 use frame::Heading;
 use refusal::{Answer, Refusal, given};
 use roster::{Ballot, Roster, View};
+
+const P1B: u8 = 3;
 
 // Whether a frame for a view is not from the view's leader.
 pub(crate) fn outsider(r: Roster, site: u8, view: View) -> bool
@@ -20,7 +23,7 @@ pub(crate) fn outsider(r: Roster, site: u8, view: View) -> bool
 
 // The answer to a P1A or FAST.
 pub(crate) fn check(r: Roster, view: View, marks: Marks, head: Heading) -> Answer
-    ensures { result ≡ answer (spec.opening_rules r view marks head) }
+    ensures { result ≡ answer (spec.opening_rules r view marks (frame_with head [])) }
 {
     let unknown = outsider(r, head.sender, head.view);
     let stale = !(head.view.equals(view) & head.ballot.above(marks.ballot));
@@ -65,7 +68,7 @@ pub(crate) fn perform<'a>(
     fast: bool,
     own: u8,
     marks: Marks,
-    next: Ballot,
+    ballot: Ballot,
     held: &'a [u64; words::CAPACITY],
     held_count: u8,
     proven: &'a [u64; words::CAPACITY],
@@ -74,22 +77,24 @@ pub(crate) fn perform<'a>(
     counts: &mut [u8; 16],
     out: &mut [u8],
 ) -> Settled
-    ensures { effects.Done (spec.opening fast own (parts.state_of marks held.now held_count proven.now proven_count words.old counts.old) next) out.old (parts.outcome_of result held.now held_count proven.now proven_count words.new counts.new) out.new }
+    ensures { effects.Done (spec.opening fast own (parts.state_of marks held.now held_count proven.now proven_count words.old counts.old) ballot) out.old (parts.outcome_of result held.now held_count proven.now proven_count words.new counts.new) out.new }
 {
     let h = history::first(held, held_count as usize);
     let g = history::first(proven, proven_count as usize);
-    let past = marks.proven_ballot;
-    let heading = Heading {
-        kind: frame::P1B,
-        sender: own,
-        view: View(0),
-        ballot: next,
-        proven_ballot: past,
-        mask: marks.certificate,
-    };
-    let length = site::send(!fast, heading, g, h, out);
+    let length = site::send(
+        !fast,
+        P1B,
+        own,
+        View(0),
+        ballot,
+        marks.proven_ballot,
+        marks.certificate,
+        g,
+        h,
+        out,
+    );
     forget(words, counts);
-    let now = in_ballot(marks, next, flag(fast));
+    let now = in_ballot(marks, ballot, flag(fast));
     Settled {
         answer: Answer::Accepted,
         sent: length,

@@ -1,7 +1,8 @@
 // P2A: the leader's history is signed.
-ghost use Rattle.std.specs.Prelude.{◌≡◌, ◌≤◌, length};
+ghost use Rattle.std.specs.Prelude.{[], ◌≡◌, ◌≤◌, length};
 ghost use Rattle.words.specs.Sizes.{capacity};
 ghost use Rattle.refusal.specs.Rules.{answer};
+ghost use Rattle.frame.specs.Format.{frame_with};
 ghost use Rattle.acceptor.specs.Acceptor as spec;
 
 use super::{Marks, opening};
@@ -11,7 +12,7 @@ use roster::{Roster, View};
 
 // The answer to the heading.
 fn check_heading(r: Roster, view: View, marks: Marks, head: Heading) -> Answer
-    ensures { result ≡ answer (spec.order_heading r view marks head) }
+    ensures { result ≡ answer (spec.order_heading r view marks (frame_with head [])) }
 {
     let unknown = opening::outsider(r, head.sender, head.view);
     let classic = marks.fast == 0;
@@ -28,7 +29,7 @@ fn lags(signed: u8, held: &[u64], proven: &[u64], h: &[u64]) -> bool
     requires { length h.now ≤ capacity }
     ensures { result ≡ spec.lags signed held.now proven.now h.now }
 {
-    let ahead = history::extends_within(h, proven);
+    let ahead = history::extends(h, proven);
     if !ahead {
         return true;
     }
@@ -36,7 +37,7 @@ fn lags(signed: u8, held: &[u64], proven: &[u64], h: &[u64]) -> bool
     if first {
         return false;
     }
-    !history::extends_within(h, held)
+    !history::extends(h, held)
 }
 
 // The answer to a P2A: the heading, then the commands, then what the history must extend.
@@ -50,7 +51,7 @@ pub(crate) fn check<'a>(
     h: &'a [u64],
 ) -> Answer
     requires { length h.now ≤ capacity }
-    ensures { result ≡ answer (spec.order_rules r view marks held.now proven.now head h.now) }
+    ensures { result ≡ answer (spec.order_rules r view marks held.now proven.now (frame_with head []) h.now) }
 {
     let heading = check_heading(r, view, marks, head);
     let stops = heading.refuses();

@@ -1,8 +1,9 @@
 // PROPOSE: the requested commands are appended to what is held, and the result is signed.
-ghost use Rattle.std.specs.Prelude.{◌≡◌, ◌≤◌, length, take};
+ghost use Rattle.std.specs.Prelude.{[], ◌≡◌, ◌≤◌, length, take};
 ghost use Rattle.frame.specs.Layout.{frame_capacity};
 ghost use Rattle.words.specs.Sizes.{capacity};
 ghost use Rattle.refusal.specs.Rules.{answer};
+ghost use Rattle.frame.specs.Format.{frame_with};
 ghost use Rattle.acceptor.specs.Acceptor as spec;
 ghost use Rattle.acceptor.specs.Code.Effects as effects;
 
@@ -12,7 +13,7 @@ use refusal::{Answer, Refusal, given};
 
 // The answer to the heading.
 fn check_heading(marks: Marks, head: Heading) -> Answer
-    ensures { result ≡ answer (spec.propose_heading marks head) }
+    ensures { result ≡ answer (spec.propose_heading marks (frame_with head [])) }
 {
     let nobody = head.sender == 0;
     let classic = marks.fast == 0;
@@ -33,7 +34,7 @@ pub(crate) fn check<'a>(
     h: &'a [u64],
 ) -> Answer
     requires { length held.now ≤ capacity }
-    ensures { result ≡ answer (spec.propose_rules marks held.now proven.now head h.now) }
+    ensures { result ≡ answer (spec.propose_rules marks held.now proven.now (frame_with head []) h.now) }
 {
     let heading = check_heading(marks, head);
     let stops = heading.refuses();
@@ -45,7 +46,7 @@ pub(crate) fn check<'a>(
     if ends {
         return commands;
     }
-    let lags = !history::extends_within(held, proven);
+    let lags = !history::extends(held, proven);
     if lags {
         return Answer::Refused(Refusal::Behind);
     }

@@ -1,19 +1,20 @@
 // Signing a history, which P2A and PROPOSE do; and sending a frame for one history.
-ghost use Rattle.std.specs.Prelude.{[], ◌≡◌, min, length};
+ghost use Rattle.std.specs.Prelude.{[], ◌≡◌, min, ◌≤◌, length};
 ghost use Rattle.words.specs.Sizes.{capacity};
 ghost use Rattle.history.specs.Words.{history_of, stored};
 ghost use Rattle.table.specs.Table.{stored_at, table_of};
-ghost use Rattle.frame.specs.Format.{message};
+ghost use Rattle.site.specs.Message.{message};
 ghost use Rattle.site.specs.Reply.{Handed, sends};
 ghost use Rattle.acceptor.specs.Acceptor as spec;
 ghost use Rattle.acceptor.specs.Parts as parts;
 ghost use Rattle.acceptor.specs.Code.Effects as effects;
 
 use super::{Marks, Settled};
-use frame::Heading;
 use refusal::Answer;
-use roster::Ballot;
+use roster::{Ballot, View};
 use site::ViewRecord;
+
+const VERIFY: u8 = 6;
 
 // How many commands are kept of h: all, but at most 32.
 fn count_of(h: &[u64]) -> u8
@@ -38,12 +39,32 @@ pub(crate) fn enter(h: &[u64], site: u8, words: &mut [u64; 512], counts: &mut [u
     table::store(words, counts, site as usize, h);
 }
 
-// Sends a frame with this heading and one history.
-pub(crate) fn notify(heading: Heading, h: &[u64], out: &mut [u8]) -> usize
-    ensures { Handed (sends (message heading h.now [])) result out.old out.new }
+// Sends a frame of this kind for one history.
+pub(crate) fn notify(
+    kind: u8,
+    own: u8,
+    view: View,
+    ballot: Ballot,
+    mask: u16,
+    h: &[u64],
+    out: &mut [u8],
+) -> usize
+    requires { length h.now ≤ capacity }
+    ensures { Handed (sends (message kind own view ballot (record { 0 = 0 }) mask h.now [])) result out.old out.new }
 {
     let none: [u64; 0] = [];
-    site::send(true, heading, h, &none, out)
+    site::send(
+        true,
+        kind,
+        own,
+        view,
+        ballot,
+        Ballot(0),
+        mask,
+        h,
+        &none,
+        out,
+    )
 }
 
 // The marks once a history was signed.
@@ -75,19 +96,10 @@ pub(crate) fn perform(
     counts: &mut [u8; 16],
     out: &mut [u8],
 ) -> Settled
+    requires { length h.now ≤ capacity }
     ensures { effects.Done (spec.sign own v (parts.state_of marks held.old held_count.old proven.now proven_count words.old counts.old) h.now) out.old (parts.outcome_of result held.new held_count.new proven.now proven_count words.new counts.new) out.new }
 {
-    let view = v.view;
-    let ballot = marks.ballot;
-    let heading = Heading {
-        kind: frame::VERIFY,
-        sender: own,
-        view,
-        ballot,
-        proven_ballot: Ballot(0),
-        mask: 0,
-    };
-    let sent = notify(heading, h, out);
+    let sent = notify(VERIFY, own, v.view, marks.ballot, 0, h, out);
     replace(h, held, held_count);
     enter(h, own, words, counts);
     let now = having_signed(marks);

@@ -1,11 +1,12 @@
 // VERIFY: it is stored, and if a quorum of sites verified its history, that is proven.
-ghost use Rattle.std.specs.Prelude.{false, ◌≡◌, ◌≤◌, length};
+ghost use Rattle.std.specs.Prelude.{false, [], ◌≡◌, ◌≤◌, length};
 ghost use Rattle.words.specs.Sizes.{capacity};
 ghost use Rattle.roster.specs.Sites.{mask_to};
 ghost use Rattle.content.specs.Content.{contradicts};
 ghost use Rattle.table.specs.Table.{row, stored_at, table_of};
 ghost use Rattle.refusal.specs.Rules.{answer};
-ghost use Rattle.site.specs.Reply.{silent};
+ghost use Rattle.frame.specs.Format.{frame_with};
+ghost use Rattle.site.specs.Reply.{accept, silent};
 ghost use Rattle.acceptor.specs.Acceptor as spec;
 ghost use Rattle.acceptor.specs.Parts as parts;
 ghost use Rattle.acceptor.specs.Code.Effects as effects;
@@ -13,11 +14,13 @@ ghost use Rattle.acceptor.specs.Code.Effects as effects;
 use super::{Marks, Settled, signing, silent};
 use frame::Heading;
 use refusal::{Answer, Refusal, given};
-use roster::{Ballot, Roster, View};
+use roster::{Roster, View};
+
+const P2B: u8 = 7;
 
 // The answer to the heading.
 fn check_heading(r: Roster, view: View, marks: Marks, head: Heading) -> Answer
-    ensures { result ≡ answer (spec.verify_heading r view marks head) }
+    ensures { result ≡ answer (spec.verify_heading r view marks (frame_with head [])) }
 {
     let unknown = r.n <= head.sender;
     let stale = !(head.view.equals(view) & head.ballot.equals(marks.ballot));
@@ -38,7 +41,7 @@ pub(crate) fn check<'a>(
     h: &'a [u64],
 ) -> Answer
     requires { (length entry.now ≤ capacity) × (length h.now ≤ capacity) }
-    ensures { result ≡ answer (spec.verify_rules r view marks entry.now head h.now) }
+    ensures { result ≡ answer (spec.verify_rules r view marks entry.now (frame_with head []) h.now) }
 {
     let heading = check_heading(r, view, marks, head);
     let stops = heading.refuses();
@@ -50,7 +53,7 @@ pub(crate) fn check<'a>(
     if ends {
         return commands;
     }
-    let clash = content::contradicts_within(entry, h);
+    let clash = content::contradicts(entry, h);
     given(clash, Refusal::Contradiction, Answer::Accepted)
 }
 
@@ -81,7 +84,7 @@ fn convinces(r: Roster, marks: Marks, proven: &[u64], mask: u16, h: &[u64]) -> b
     if !enough {
         return false;
     }
-    let grows = history::extends_within(h, proven);
+    let grows = history::extends(h, proven);
     if !grows {
         return false;
     }
@@ -133,16 +136,7 @@ fn store(
     if !proves {
         return silent(marks, Answer::Accepted);
     }
-    let current = marks.ballot;
-    let heading = Heading {
-        kind: frame::P2B,
-        sender: own,
-        view: View(0),
-        ballot: current,
-        proven_ballot: Ballot(0),
-        mask,
-    };
-    let sent = signing::notify(heading, h, out);
+    let sent = signing::notify(P2B, own, View(0), marks.ballot, mask, h, out);
     signing::replace(h, proven, proven_count);
     let now = having_proven(marks, mask);
     Settled {

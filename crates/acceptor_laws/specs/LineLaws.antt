@@ -7,6 +7,7 @@ use Rattle.std.proofs.Math.Bool.{true, false}
 use Rattle.std.specs.Bool.{beq}
 use Rattle.std.proofs.lemmas.Bool.{not-true, not-false}
 use Rattle.roster.specs.declared.Roster.{Roster}
+use Rattle.roster.specs.declared.View.{View}
 use Rattle.roster.specs.declared.Ballot.{Ballot}
 use Rattle.roster.specs.RosterLaws.{valid_figures}
 use Rattle.roster.specs.Mask.{bit, beyond}
@@ -35,12 +36,12 @@ use Rattle.refusal.specs.declared.Refusal.{Refusal}
 use Rattle.refusal.specs.declared.Refusal.TheVariants.{Sender, Command, History, Full}
 use Rattle.refusal.specs.JudgedLaws.{NoneHolds, test_of, no_test}
 use Rattle.frame.specs.declared.Frame.{Frame}
-use Rattle.frame.specs.Kinds as kinds
 use Rattle.frame.specs.Kinds.{uses, is_kind, unused_zero, zero_unless}
 use Rattle.frame.specs.Format.{proper, writable}
 use Rattle.site.specs.declared.ViewRecord.{ViewRecord}
 use Rattle.site.specs.Site.{seated, valid_record}
 use Rattle.site.specs.SiteLaws.{seated_is}
+use Rattle.site.specs.Message.{message}
 use Rattle.site.specs.MessageLaws.{read_first_fits, read_ballot_fits, message_writable}
 use Rattle.site.specs.Reply.{silent, sends, Reply, refuse, accept}
 use Rattle.site.specs.ReplyLaws.{silent_sends, sends_same, Sent, sent_line}
@@ -84,50 +85,52 @@ use Rattle.acceptor.specs.Acceptor.{
 }
 use Rattle.acceptor.specs.AcceptorLaws.{verified_by, Accepts, Stepped, refuses, accepting, stepped, carried_short}
 
--- ---- the kinds that are taken
+-- ---- the kinds that are taken: 1 P1A, 2 FAST, 4 PROPOSE, 5 P2A, 6 VERIFY
 
 abbrev is_taken : ℕ → Bool
-is_taken k = eqb k kinds.P1A || (eqb k kinds.FAST || (eqb k kinds.PROPOSE || (eqb k kinds.P2A || eqb k kinds.VERIFY)))
+is_taken k = eqb k 1 || (eqb k 2 || (eqb k 4 || (eqb k 5 || eqb k 6)))
 
 only_five : all_to 7 (λ k. beq (bit taken k) (is_taken k)) ≡ true
 unfolding all_to bit
 only_five = refl
 
--- P1A, FAST, PROPOSE, P2A and VERIFY, and no other kind
-pub taken_is : (k : ℕ) → bit taken k ≡ is_taken k
+-- they, and no other kind
+pub taken_is : (k : ℕ) → bit taken k ≡ (eqb k 1 || (eqb k 2 || (eqb k 4 || (eqb k 5 || eqb k 6))))
 taken_is k =
     ⊎_elim (λ p. beq_true (bit taken k) (is_taken k) (all_each 7 (λ i. beq (bit taken i) (is_taken i)) only_five k p))
     (λ (p : 7 ≤ k).
     bit_out taken 7 k (lit< tt) p
     ∙ sym
     (rw (
-      ne_eqb k kinds.P1A (λ e. omega arith),
-      ne_eqb k kinds.FAST (λ e. omega arith),
-      ne_eqb k kinds.PROPOSE (λ e. omega arith),
-      ne_eqb k kinds.P2A (λ e. omega arith),
-      ne_eqb k kinds.VERIFY (λ e. omega arith),
+      ne_eqb k 1 (λ e. omega arith),
+      ne_eqb k 2 (λ e. omega arith),
+      ne_eqb k 4 (λ e. omega arith),
+      ne_eqb k 5 (λ e. omega arith),
+      ne_eqb k 6 (λ e. omega arith),
     )))
     (lt_or_le k 7)
 
 -- each goes by its name
-pub kind_of_lem : (kind_of kinds.P1A ≡ P1A) × (kind_of kinds.FAST ≡ FAST) × (kind_of kinds.PROPOSE ≡ PROPOSE) × (kind_of kinds.P2A ≡ P2A) × (kind_of kinds.VERIFY ≡ VERIFY)
+pub kind_of_lem : (kind_of 1 ≡ P1A) × (kind_of 2 ≡ FAST) × (kind_of 4 ≡ PROPOSE) × (kind_of 5 ≡ P2A) × (kind_of 6 ≡ VERIFY)
 kind_of_lem = (refl, refl, refl, refl, refl)
 
 -- ---- which frames FORM allows
 
 -- P1B, VERIFY and P2B leave 0 what their kind doesn't use
-p1b_proper : (own : ℕ) (s : State) (ballot : Ballot) → length (proven_of s) ≤ capacity → length (held_of s) ≤ capacity
-    → proper capacity (p1b own s ballot) ≡ true
+p1b_proper : (own : ℕ) (ballot provenBallot : Ballot) (mask : ℕ) (h k : List ℕ) → length h ≤ capacity → length k ≤ capacity
+    → proper capacity (message 3 own (record { 0 = 0 }) ballot provenBallot mask h k) ≡ true
 unfolding proper is_kind uses unused_zero zero_unless
-p1b_proper own s ballot p q = rw (le-leb (length (proven_of s)) capacity p, le-leb (length (held_of s)) capacity q)
+p1b_proper own ballot provenBallot mask h k p q = rw (le-leb (length h) capacity p, le-leb (length k) capacity q)
 
-verify_proper : (own : ℕ) (v : ViewRecord) (s : State) (h : List ℕ) → length h ≤ capacity → proper capacity (verify own v s h) ≡ true
+verify_proper : (own : ℕ) (view : View) (ballot : Ballot) (h : List ℕ) → length h ≤ capacity
+    → proper capacity (message 6 own view ballot (record { 0 = 0 }) 0 h []) ≡ true
 unfolding proper is_kind uses unused_zero zero_unless
-verify_proper own v s h p = rw (le-leb (length h) capacity p)
+verify_proper own view ballot h p = rw (le-leb (length h) capacity p)
 
-p2b_proper : (own : ℕ) (s : State) (mask : ℕ) (h : List ℕ) → length h ≤ capacity → proper capacity (p2b own s mask h) ≡ true
+p2b_proper : (own : ℕ) (ballot : Ballot) (mask : ℕ) (h : List ℕ) → length h ≤ capacity
+    → proper capacity (message 7 own (record { 0 = 0 }) ballot (record { 0 = 0 }) mask h []) ≡ true
 unfolding proper is_kind uses unused_zero zero_unless
-p2b_proper own s mask h p = rw (le-leb (length h) capacity p)
+p2b_proper own ballot mask h p = rw (le-leb (length h) capacity p)
 
 -- ---- what CONFIG lets pass
 
@@ -207,19 +210,19 @@ appended_checked s line e v p l =
 -- what holds of a refusal, and of each reply to an accepted frame, holds of what a step replies
 module _ {r : Roster} {own room : ℕ} {v : ViewRecord} {s : State} {line : List ℕ} (P : Reply State → Type 0)
     (on-refusal : (e : Refusal) → P (refuse s e))
-    (on-classic : Accepts r own room v s line → P (accept (in_ballot s (received line).heading.ballot 0) (sends (p1b own s (received line).heading.ballot))))
-    (on-fast : Accepts r own room v s line → P (accept (in_ballot s (received line).heading.ballot 1) silent))
+    (on-classic : Accepts r own room v s line → P (accept (in_ballot s (received line).ballot 0) (sends (p1b own s (received line).ballot))))
+    (on-fast : Accepts r own room v s line → P (accept (in_ballot s (received line).ballot 1) silent))
     (on-sign : Accepts r own room v s line → (h : List ℕ) → Checked s h → P (accept (signing own s h) (sends (verify own v s h))))
-    (on-prove : Accepts r own room v s line → (received line).heading.sender < r.n → Checked s (carried (received line))
+    (on-prove : Accepts r own room v s line → (received line).sender < r.n → Checked s (carried (received line))
     → P
     (accept
     (proving s (verified_by s (received line)) (certificate_of r (verified_by s (received line)) (carried (received line))) (carried (received line)))
     (sends (p2b own s (certificate_of r (verified_by s (received line)) (carried (received line))) (carried (received line))))))
-    (on_store : Accepts r own room v s line → (received line).heading.sender < r.n → Checked s (carried (received line))
+    (on_store : Accepts r own room v s line → (received line).sender < r.n → Checked s (carried (received line))
     → P (accept (storing s (verified_by s (received line))) silent))
     (on_none : P (accept s silent)) where
   -- a VERIFY
-  on_verify : Accepts r own room v s line → (received line).heading.sender < r.n → Checked s (carried (received line))
+  on_verify : Accepts r own room v s line → (received line).sender < r.n → Checked s (carried (received line))
       → P (accepted VERIFY r own v s (received line))
   unfolding store verifying
   on_verify a p c =
@@ -245,12 +248,12 @@ module _ {r : Roster} {own room : ℕ} {v : ViewRecord} {s : State} {line : List
       (ltb-false limit _ (no_test n Full)))
   on_kind a P2A n = on-sign a (carried (received line)) (carried_checked s line a.framed (no_test n Command) (no_test n History))
   on_kind a VERIFY n =
-      on_verify a (leb-false r.n (received line).heading.sender (no_test n Sender))
+      on_verify a (leb-false r.n (received line).sender (no_test n Sender))
       (carried_checked s line a.framed (no_test n Command) (no_test n History))
 
   replies : Stepped r own room v s line → P (step r own room v s line)
   replies (refuses e g o) = rw o (on-refusal e)
-  replies (accepting a) = subst P (sym a.outcome) (on_kind a (kind_of (received line).heading.kind) a.passes)
+  replies (accepting a) = subst P (sym a.outcome) (on_kind a (kind_of (received line).kind) a.passes)
 
 -- a step that sends has passed CONFIG
 config_passed : (r : Roster) (own room : ℕ) (v : ViewRecord) (s : State) (line : List ℕ) {m : Frame} → (step r own room v s line).sending ≡ sends m
@@ -291,22 +294,20 @@ module _ {own : ℕ} {v : ViewRecord} {s : State} (f : Fits own v s) where
   -- P1B, VERIFY and P2B of such a state
   p1b_writable : (n : ℕ) (ballot : Ballot) → Lendable n s → ballot.0 < 2 ^ 32 → writable (p1b own s ballot) ≡ true
   p1b_writable n ballot c l =
-      message_writable _
-      (record { kind = lit< tt; sender = f.own_fits; view = lit< tt; ballot = l; proven_ballot = f.proven_ballot_fits; mask = f.certificate_fits })
-      proven_each held_each
-      (p1b_proper own s ballot (valid_stored_length limit s.proven c.proven_valid) (valid_stored_length limit s.held c.held_valid))
+      let p = valid_stored_length limit s.proven c.proven_valid in
+      let q = valid_stored_length limit s.held c.held_valid in
+      message_writable 3 own (record { 0 = 0 }) ballot s.proven_ballot s.certificate p q proven_each held_each (lit< tt) f.own_fits (lit< tt) l
+      f.proven_ballot_fits f.certificate_fits (p1b_proper own ballot s.proven_ballot s.certificate (proven_of s) (held_of s) p q)
 
   verify_writable : (h : List ℕ) → Checked s h → writable (verify own v s h) ≡ true
   verify_writable h c =
-      message_writable _
-      (record { kind = lit< tt; sender = f.own_fits; view = f.view_fits; ballot = f.ballot_fits; proven_ballot = lit< tt; mask = lit< tt })
-      (c.words held_each) none (verify_proper own v s h c.short)
+      message_writable 6 own v.view s.ballot (record { 0 = 0 }) 0 c.short (omega arith) (c.words held_each) none (lit< tt) f.own_fits
+      f.view_fits f.ballot_fits (lit< tt) (lit< tt) (verify_proper own v.view s.ballot h c.short)
 
   p2b_writable : (h : List ℕ) (mask : ℕ) → Checked s h → mask < 2 ^ 16 → writable (p2b own s mask h) ≡ true
   p2b_writable h mask c l =
-      message_writable _
-      (record { kind = lit< tt; sender = f.own_fits; view = lit< tt; ballot = f.ballot_fits; proven_ballot = lit< tt; mask = l })
-      (c.words held_each) none (p2b_proper own s mask h c.short)
+      message_writable 7 own (record { 0 = 0 }) s.ballot (record { 0 = 0 }) mask c.short (omega arith) (c.words held_each) none (lit< tt) f.own_fits (lit< tt)
+      f.ballot_fits (lit< tt) l (p2b_proper own s.ballot mask h c.short)
 
   -- each frame that is sent has a line
   pub sends_writable : (r : Roster) (room : ℕ) (line : List ℕ) {m : Frame} → (step r own room v s line).sending ≡ sends m → writable m ≡ true
@@ -314,7 +315,7 @@ module _ {own : ℕ} {v : ViewRecord} {s : State} (f : Fits own v s) where
       let x = received line in
       let found : (y : Frame) → sends y ≡ sends m → writable y ≡ true → writable m ≡ true = λ y g w. subst (λ z. writable z ≡ true) (sends_same g) w in
       replies (λ o. o.sending ≡ sends m → writable m ≡ true) (λ _ g. absurd (silent_sends g))
-      (λ a g. found _ g (p1b_writable r.n x.heading.ballot (configured_is r own room v s a.configured).lent (read_ballot_fits limit line taken a.framed)))
+      (λ a g. found _ g (p1b_writable r.n x.ballot (configured_is r own room v s a.configured).lent (read_ballot_fits limit line taken a.framed)))
       (λ a g. absurd (silent_sends g)) (λ a h c g. found _ g (verify_writable h c))
       (λ a p c g. found _ g (p2b_writable (carried x) _ c (certificate_lt r own room v s (verified_by s x) (carried x) a.configured)))
       (λ a p c g. absurd (silent_sends g)) (λ g. absurd (silent_sends g)) (stepped r own room v s line) e
@@ -340,7 +341,7 @@ keeps_lendable r own room v s line c =
     let x = received line in
     let n = r.n in
     let member : Accepts r own room v s line → own < n = λ a. (seated_is r own room (configured_is r own room v s a.configured).seat).member in
-    let opened : (fast : ℕ) → Lendable n (in_ballot s x.heading.ballot fast) = λ fast.
+    let opened : (fast : ℕ) → Lendable n (in_ballot s x.ballot fast) = λ fast.
     record { held_valid = c.held_valid; proven_valid = c.proven_valid; inside = c.inside; table_valid = valid_empty limit n } in
     replies (λ o. Lendable n o.state) (λ _. c) (λ a. opened 0) (λ a. opened 1)
     (λ a h k.
@@ -355,14 +356,14 @@ keeps_lendable r own room v s line c =
       held_valid = c.held_valid;
       proven_valid = stored_valid limit (carried x) k.short k.short k.valid;
       inside = certificate_inside r (verified_by s x) (carried x);
-      table_valid = valid_stored_lem limit n s.verified x.heading.sender (carried x) k.short c.table_valid p k.valid;
+      table_valid = valid_stored_lem limit n s.verified x.sender (carried x) k.short c.table_valid p k.valid;
     })
     (λ a p k.
     record {
       held_valid = c.held_valid;
       proven_valid = c.proven_valid;
       inside = c.inside;
-      table_valid = valid_stored_lem limit n s.verified x.heading.sender (carried x) k.short c.table_valid p k.valid;
+      table_valid = valid_stored_lem limit n s.verified x.sender (carried x) k.short c.table_valid p k.valid;
     })
     c (stepped r own room v s line)
 
@@ -400,7 +401,7 @@ pub keeps_fits : (r : Roster) (own room : ℕ) (v : ViewRecord) (s : State) (lin
     → Fits own v (step r own room v s line).state
 keeps_fits r own room v s line f =
     let x = received line in
-    let opened : (fast : ℕ) → Accepts r own room v s line → Fits own v (in_ballot s x.heading.ballot fast) = λ fast a.
+    let opened : (fast : ℕ) → Accepts r own room v s line → Fits own v (in_ballot s x.ballot fast) = λ fast a.
     record {
       own_fits = f.own_fits;
       view_fits = f.view_fits;

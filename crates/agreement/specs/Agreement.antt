@@ -10,12 +10,11 @@ use Rattle.history.specs.History.{Extends, Before, repeated}
 use Rattle.history.specs.Words.{limit, commands}
 use Rattle.refusal.specs.declared.Refusal.TheVariants.{Split}
 use Rattle.refusal.specs.declared.Answer.TheVariants.{Refused}
-use Rattle.frame.specs.Kinds.{P1B, VERIFY, P2B}
 use Rattle.frame.specs.Format.{is_line, frame_of}
-use Rattle.replica.specs.Calls.{Call, handed, start, Sent}
 use Rattle.learner.specs.declared.Outcome.{Outcome}
 use Rattle.learner.specs.Learner as learner
 use Rattle.learner.specs.Run.{run, outcomes, Voted}
+use Rattle.agreement.specs.Calls.{Call, handed, start, Sent}
 
 -- ---- what happened
 
@@ -44,13 +43,13 @@ pub data HandedIn (w : World) (line : List ℕ) : Type 0 where
 
 -- "a kind acceptors send (here P1B, VERIFY, P2B)"
 abbrev pub from_acceptor : ℕ → Bool
-from_acceptor kind = eqb kind P1B || (eqb kind VERIFY || eqb kind P2B)
+from_acceptor kind = eqb kind 3 || (eqb kind 6 || eqb kind 7)
 
 -- "A frame of a kind acceptors send … naming" site i "as sender"
 pub record Names (line : List ℕ) (i : ℕ) : Type 0 where
   pub frame : is_line limit line ≡ true
-  pub kind : from_acceptor (frame_of line).heading.kind ≡ true
-  pub sender : (frame_of line).heading.sender ≡ i
+  pub kind : from_acceptor (frame_of line).kind ≡ true
+  pub sender : (frame_of line).sender ≡ i
 
 pub record Premises (w : World) : Type 0 where
   -- "4 ≤ N ≤ 16, f ≥ 1, N ≥ 3f+1" (Roster and numbers)

@@ -21,9 +21,7 @@ use Rattle.refusal.specs.declared.Refusal.TheVariants.{Split}
 use Rattle.refusal.specs.declared.Answer.TheVariants.{Refused}
 use Rattle.frame.specs.declared.Frame.{Frame}
 use Rattle.frame.specs.Layout.{first}
-use Rattle.frame.specs.Kinds.{P2B}
 use Rattle.frame.specs.Format.{frame_of}
-use Rattle.replica.specs.Calls.{start, Sent}
 use Rattle.learner.specs.declared.State.{State}
 use Rattle.learner.specs.declared.Outcome.{Outcome}
 use Rattle.learner.specs.Learner.{fresh, step, vote, arrived}
@@ -51,6 +49,7 @@ use Rattle.learner.specs.VoteLaws.{
 }
 use Rattle.learner.specs.Run.{run, outcomes}
 use Rattle.learner.specs.RunLaws.{fresh_sound, run_keeps, contained}
+use Rattle.agreement.specs.Calls.{start, Sent}
 use Rattle.agreement.specs.Agreement.{World, Honest, to_learner, from_acceptor, Names, Premises, holds, CommonExtension, Claim}
 use Rattle.agreement.specs.ChainLaws.{history, VoteSent, votes_chained}
 
@@ -137,26 +136,26 @@ Trusted w line = (i : ℕ) → Honest w i → Names line i → Sent w.roster i l
 
 module _ {w : World} {s : State} (f : Fine w s) {line : List ℕ} (t : Trusted w line) (a : Heard w.roster line) where
   -- a vote that is heard names its sender, so an honest sender sent it
-  vote_sent : (i : ℕ) → Honest w i → (vote line).heading.sender ≡ i → VoteSent w.roster i line start (w.calls i)
+  vote_sent : (i : ℕ) → Honest w i → (vote line).sender ≡ i → VoteSent w.roster i line start (w.calls i)
   vote_sent i m e =
-      let k : (frame_of line).heading.kind ≡ P2B = sym (ap (λ (x : Frame). x.heading.kind) (heard_frame a)) ∙ heard_kind a in
+      let k : (frame_of line).kind ≡ 7 = sym (ap (λ (x : Frame). x.kind) (heard_frame a)) ∙ heard_kind a in
       record {
         sent =
             t i m
             (record {
               frame = heard_line a;
               kind = subst (λ (x : ℕ). from_acceptor x ≡ true) (sym k) refl;
-              sender = sym (ap (λ (x : Frame). x.heading.sender) (heard_frame a)) ∙ e;
+              sender = sym (ap (λ (x : Frame). x.sender) (heard_frame a)) ∙ e;
             });
         vote = k;
       }
 
   with_entry : (i : ℕ) → Honest w i → FromSite w i (row_of (with_line s line) i)
   with_entry i m =
-      let in_table : (vote line).heading.sender < sites = omega (arith, heard_sender a, (valid_figures w.roster f.sound.roster).max_sites) in
-      go (entry_is f.sound.sized (vote line).heading.sender (arrived (vote line)) in_table (heard_arrived a).short i)
+      let in_table : (vote line).sender < sites = omega (arith, heard_sender a, (valid_figures w.roster f.sound.roster).max_sites) in
+      go (entry_is f.sound.sized (vote line).sender (arrived (vote line)) in_table (heard_arrived a).short i)
     where
-      go : Entry s.entries (vote line).heading.sender (arrived (vote line)) i → FromSite w i (row_of (with_line s line) i)
+      go : Entry s.entries (vote line).sender (arrived (vote line)) i → FromSite w i (row_of (with_line s line) i)
       go (kept e) = subst (FromSite w i) (sym e) (f.entries i m)
       go (entered d e) = subst (FromSite w i) (sym e) (voted line (vote_sent i m d) (ap first (sym (heard_frame a))))
 

@@ -1,4 +1,5 @@
--- Demand 3: the claim, why it holds, and two worlds of which it speaks.
+-- Demand 3: call lists, the claim, and why it holds.
+pub mod Calls
 pub mod Agreement
 pub mod ChainLaws
 pub mod AgreementLaws

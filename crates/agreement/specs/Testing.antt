@@ -1,22 +1,30 @@
 -- A test of the premises that can be computed, for call lists of which only the first learners' are not empty; and that it is enough.
-use Rattle.std.specs.Prelude.{◌≡◌, ◌⊎◌, Bool, true, false, not, ◌&&◌, ◌||◌, ℕ, ◌≤◌, ◌<◌, leb, ltb}
+use Rattle.std.specs.Prelude.{◌≡◌, refl, ◌⊎◌, Bool, true, false, not, cond, ◌&&◌, ◌||◌, ℕ, ◌≤◌, ◌<◌, leb, ltb, take}
 use Rattle.std.proofs.Common.{sym, ap, ◌∙◌, subst, inl, inr, ⊎_elim}
 use Rattle.std.proofs.lemmas.Bool.{false≢true}
 use mathlib.Core.List.{List, [], ◌∷◌, map, Memᴰ}
-use borrow.Author.Tests.{leb-true, lt-ltb}
+use borrow.Author.Tests.{leb-true, ltb-true, lt-ltb}
 use Rattle.words.specs.Sizes.{limit}
 use Rattle.basics.specs.Bools.{lt_or_le, and_left, and_right, or_either, implies}
+use Rattle.roster.specs.declared.Roster.{Roster}
 use Rattle.roster.specs.Roster.{valid_roster, quorum}
 use Rattle.roster.specs.Sites.{count_to, all_to}
 use Rattle.roster.specs.SitesLaws.{all_each}
 use Rattle.history.specs.History.{equal}
 use Rattle.history.specs.CanonicalLaws.{equal_true}
 use Rattle.frame.specs.Format.{is_line, frame_of}
-use Rattle.replica.specs.Calls.{handed, start, Sent}
-use Rattle.replica.specs.CallLaws.{sent_lines, sent_is}
+use Rattle.agreement.specs.Calls.{Call, handed, Site, start, Left, call, Sent, now, later}
 use Rattle.agreement.specs.Agreement.{World, Honest, HandedIn, to_learner, to_site, from_acceptor, Names, Premises}
 
 -- ---- the test
+
+-- the lines that the calls of site i send from s on
+unfoldable pub sent_lines : Roster → ℕ → Site → List Call → List (List ℕ)
+sent_lines r i s [] = []
+sent_lines r i s (c ∷ calls) =
+    let x = call r i s c in
+    let more = sent_lines r i x.kept calls in
+    cond (ltb 0 x.sent) (take x.sent x.output ∷ more) more
 
 -- whether a line is one of these
 unfoldable pub is_in : List ℕ → List (List ℕ) → Bool
@@ -26,13 +34,13 @@ is_in line (l ∷ ls) = equal line l || is_in line ls
 -- whether a line names one of the honest sites as the sender of a P1B, VERIFY or P2B
 unfoldable pub names_honest : World → List ℕ → Bool
 names_honest w line =
-    let m = (frame_of line).heading in
+    let m = frame_of line in
     is_line limit line && (from_acceptor m.kind && (ltb m.sender w.roster.n && w.honest m.sender))
 
 -- whether a line is authentic
 unfoldable pub authentic : World → List ℕ → Bool
 authentic w line =
-    let i = (frame_of line).heading.sender in
+    let i = (frame_of line).sender in
     not (names_honest w line) || is_in line (sent_lines w.roster i start (w.calls i))
 
 unfoldable pub all_authentic : World → List (List ℕ) → Bool
@@ -62,6 +70,26 @@ in_mem line [] e = absurd (false≢true e)
 in_mem line (l ∷ ls) e =
     ⊎_elim (λ p. Memᴰ.head (equal_true line l p)) (λ p. Memᴰ.tail (in_mem line ls p)) (or_either (equal line l) (is_in line ls) e)
 
+sent_is : (r : Roster) (i : ℕ) (line : List ℕ) (s : Site) (calls : List Call) → Memᴰ line (sent_lines r i s calls) → Sent r i line s calls
+unfolding sent_lines
+sent_is r i line s (c ∷ calls) m = go (ltb 0 x.sent) refl m (sent_is r i line x.kept calls)
+  where
+    x : Left
+    x = call r i s c
+
+    more : List (List ℕ)
+    more = sent_lines r i x.kept calls
+
+    first_or_later : 0 < x.sent → Memᴰ line (take x.sent x.output ∷ more) → (Memᴰ line more → Sent r i line x.kept calls)
+        → Sent r i line s (c ∷ calls)
+    first_or_later p (Memᴰ.head e) f = now p (sym e)
+    first_or_later p (Memᴰ.tail n) f = later (f n)
+
+    go : (b : Bool) → ltb 0 x.sent ≡ b → Memᴰ line (cond b (take x.sent x.output ∷ more) more)
+        → (Memᴰ line more → Sent r i line x.kept calls) → Sent r i line s (c ∷ calls)
+    go true e n f = first_or_later (ltb-true 0 x.sent e) n f
+    go false e n f = later (f n)
+
 each_authentic : (w : World) (ls : List (List ℕ)) → all_authentic w ls ≡ true → {line : List ℕ} → Memᴰ line ls → authentic w line ≡ true
 unfolding all_authentic
 each_authentic w (l ∷ ls) e (Memᴰ.head p) = ap (authentic w) p ∙ and_left (authentic w l) _ e
@@ -70,7 +98,7 @@ each_authentic w (l ∷ ls) e (Memᴰ.tail m) = each_authentic w ls (and_right (
 authentic_sent : (w : World) (line : List ℕ) (i : ℕ) → authentic w line ≡ true → Honest w i → Names line i → Sent w.roster i line start (w.calls i)
 unfolding authentic names_honest
 authentic_sent w line i e h n =
-    let k = (frame_of line).heading.sender in
+    let k = (frame_of line).sender in
     let l : ltb k w.roster.n ≡ true = lt-ltb k w.roster.n (subst (λ (x : ℕ). x < w.roster.n) (sym n.sender) h.member) in
     let b : w.honest k ≡ true = ap w.honest n.sender ∙ h.honest in
     let named : names_honest w line ≡ true = rw (n.frame, n.kind, l, b) in

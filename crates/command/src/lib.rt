@@ -1,5 +1,7 @@
 // Commands: the fields of the eight bytes, when a command is valid, and when two conflict.
 // A command is the number of its eight bytes, big-endian.
+#![tactic(auto)]
+
 ghost use Rattle.std.specs.Prelude.{◌≡◌};
 ghost use Rattle.command.specs.Command as spec;
 

@@ -2,7 +2,7 @@
 -- NOTHING and FULL of a PROPOSE; CONTRADICTION: the test of VERIFY and P2B.
 use Rattle.std.specs.Prelude.{Bool, not, ◌&&◌, ◌||◌, List, [], ◌∷◌, ℕ, eqb, length}
 use Rattle.command.specs.Command.{wrong, all_by}
-use Rattle.history.specs.History.{repeated, disordered, improper, extends}
+use Rattle.history.specs.History.{repeated, is_canonical, improper, extends}
 use Rattle.history.specs.Words.{extends_within}
 use Rattle.merge.specs.Appending.{reuses, nothing_new, overflows}
 use Rattle.refusal.specs.declared.Refusal.TheVariants.{Command, History as Improper, Reused, Nothing, Full}
@@ -17,6 +17,10 @@ history_rules h = wrong h gives Command ∷ improper h gives Improper ∷ []
 abbrev pub request_rules : ℕ → List ℕ → List Rule
 request_rules by h = (wrong h || not (all_by by h)) gives Command ∷ (repeated h || eqb (length h) 0) gives Improper ∷ []
 
+-- HISTORY, of a list that may be empty: "proposer and serial repeated; not canonical"
+unfoldable pub disordered : List ℕ → Bool
+disordered h = repeated h || not (is_canonical h)
+
 -- the two histories of a P1B: "Its held history follows rules 6 and 7 also."
 abbrev pub report_rules : List ℕ → List ℕ → List Rule
 report_rules g h = (wrong g || wrong h) gives Command ∷ (disordered g || disordered h) gives Improper ∷ []
@@ -30,6 +34,6 @@ append_rules limit list h = reuses list h gives Reused ∷ nothing_new list h gi
 unfoldable pub contradicts : List ℕ → List ℕ → Bool
 contradicts entry h = not (extends h entry) && not (extends entry h)
 
--- the same within n commands: a longer list extends nothing
+-- the same, asked of lists of at most n commands only
 unfoldable pub contradicts_within : ℕ → List ℕ → List ℕ → Bool
 contradicts_within n entry h = not (extends_within n h entry) && not (extends_within n entry h)

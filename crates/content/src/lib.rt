@@ -8,6 +8,17 @@ ghost use Rattle.content.specs.Content as spec;
 
 use refusal::{Answer, Refusal, given};
 
+// Whether a list that may be empty has a proposer and serial twice, or is not in canonical order.
+fn disordered(h: &[u64]) -> bool
+    ensures { result ≡ spec.disordered h.now }
+{
+    let doubled = history::repeated(h);
+    if doubled {
+        return true;
+    }
+    !history::is_canonical(h)
+}
+
 // The answer to a history that is not empty, in canonical order.
 pub fn ordered(h: &[u64]) -> Answer
     ensures { result ≡ answer (spec.history_rules h.now) }
@@ -40,7 +51,7 @@ pub fn reported(proven: &[u64], held: &[u64]) -> Answer
     if wrong {
         return Answer::Refused(Refusal::Command);
     }
-    let improper = history::disordered(proven) | history::disordered(held);
+    let improper = disordered(proven) | disordered(held);
     given(improper, Refusal::History, Answer::Accepted)
 }
 
@@ -61,13 +72,13 @@ pub fn appendable<'a>(limit: u8, list: &'a [u64], h: &'a [u64]) -> Answer
     given(full, Refusal::Full, Answer::Accepted)
 }
 
-// Whether neither of a site's entry and h extends the other, of lists of at most 64 commands: a longer one extends nothing here.
-pub fn contradicts_within<'a>(entry: &'a [u64], h: &'a [u64]) -> bool
+// Whether neither of a site's entry and h extends the other, of lists that a union of two histories can be: a longer one extends nothing here.
+pub fn contradicts<'a>(entry: &'a [u64], h: &'a [u64]) -> bool
     ensures { result ≡ spec.contradicts_within union_capacity entry.now h.now }
 {
-    let newer = history::extends_within(h, entry);
+    let newer = history::extends(h, entry);
     if newer {
         return false;
     }
-    !history::extends_within(entry, h)
+    !history::extends(entry, h)
 }

@@ -16,12 +16,12 @@ use Rattle.frame.specs.declared.Frame.{Frame}
 use Rattle.frame.specs.declared.Heading.{Heading}
 use Rattle.frame.specs.Hex.{digits_of, spell, all_fit, total}
 use Rattle.frame.specs.HexLaws.{length_digits}
-use Rattle.frame.specs.Layout.{fields, command_width, frame_capacity, widths, values, count, first, second, line_length}
+use Rattle.frame.specs.Layout.{command_width, frame_capacity, widths, values, count, first, second, line_length}
 use Rattle.frame.specs.Kinds.{unused_zero}
-use Rattle.frame.specs.Format.{commands, line_of, proper, all_zero, fits, writable, has_room, written_length, written, message}
-use Rattle.frame.specs.FormatLaws.{proper_n, proper_m, proper_count}
-use Rattle.frame.specs.FromLaws.{Sized, from_writable, from_line, from_parts}
-use Rattle.frame.specs.Code.Leaves.{header_size, proper_header}
+use Rattle.frame.specs.Format.{commands, line_of, proper, all_zero, fits, writable, has_room, written_length, written, head_of, frame_from, listed, length_from, written_from}
+use Rattle.frame.specs.FormatLaws.{proper_count}
+use Rattle.frame.specs.FromLaws.{listed_first, listed_second, listed_count, from_writable, from_line, from_listed, lists_are, from_parts}
+use Rattle.frame.specs.Code.Leaves.{proper_header}
 use Rattle.frame.proofs.Runs.{commands_length, commands_total}
 
 -- ---- each value of the type fits
@@ -34,18 +34,38 @@ words_fit (suc n) [] e h = absurd (omega arith)
 words_fit (suc n) (x ∷ xs) e h =
     and_both (ltb x (256 ^ command_width)) (all_fit (commands n) xs) (lt-ltb x (256 ^ command_width) (h 0)) (words_fit n xs (omega arith) (λ i. h (suc i)))
 
--- the header of a message, as the code has it, is proper exactly as the message is
-head_proper : (h : Heading) (g k head : List ℕ) → head ≡ values (message h g k) → proper_header capacity head ≡ proper capacity (message h g k)
-unfolding proper proper_header unused_zero
-head_proper h g k head e = ap (proper_header capacity) e
+-- what is known of a value of the type
+pub record Sized (h : Heading) : Type 0 where
+  pub kind : h.kind < 256
+  pub sender : h.sender < 256
+  pub view : h.view.0 < 2 ^ 32
+  pub ballot : h.ballot.0 < 2 ^ 32
+  pub proven_ballot : h.proven_ballot.0 < 2 ^ 32
+  pub mask : h.mask < 2 ^ 16
+  pub n : h.n < 256
+  pub m : h.m < 256
 
--- the lists of a proper message are short
-pub lists_short : (h : Heading) (g k head : List ℕ) → head ≡ values (message h g k) → proper_header capacity head ≡ true → (length g ≤ capacity) × (length k ≤ capacity)
-lists_short h g k head e p =
-    let good = sym (head_proper h g k head e) ∙ p in (proper_n capacity (message h g k) good, proper_m capacity (message h g k) good)
+sized_fits : (h : Heading) (g k : List ℕ) → Sized h → all_fit widths (values (frame_from h g k)) ≡ true
+unfolding all_fit
+sized_fits h g k s =
+    simp (
+      lt-ltb h.kind 256 s.kind,
+      lt-ltb h.sender 256 s.sender,
+      lt-ltb h.view.0 (2 ^ 32) s.view,
+      lt-ltb h.ballot.0 (2 ^ 32) s.ballot,
+      lt-ltb h.proven_ballot.0 (2 ^ 32) s.proven_ballot,
+      lt-ltb h.mask (2 ^ 16) s.mask,
+      lt-ltb h.n 256 s.n,
+      lt-ltb h.m 256 s.m,
+    )
+
+-- so lists that are n and m long are short
+pub lists_short : (h : Heading) (g k : List ℕ) → Sized h → listed h g k ≡ true → (length g < 256) × (length k < 256)
+lists_short h g k s e = (omega (arith, listed_first h g k e, s.n), omega (arith, listed_second h g k e, s.m))
 
 -- ---- refused, and nothing is written
 
+-- of a frame, and of one whose heading and lists are apart
 abbrev Unwritten : Frame → List ℕ → Type 0
 Unwritten f out = (0 ≡ written_length f out) × (out ≡ written f out)
 
@@ -62,14 +82,28 @@ unfolding writable
 not_proper f out e = not_writable f out (rw e)
 
 module _ (h : Heading) (g k out : List ℕ) where
-  pub from_not_proper : (head : List ℕ) → head ≡ values (message h g k) → proper_header capacity head ≡ false → Unwritten (message h g k) out
-  from_not_proper head e p = not_proper (message h g k) out (sym (head_proper h g k head e) ∙ p)
+  abbrev UnwrittenFrom : Type 0
+  UnwrittenFrom = (0 ≡ length_from h g k out) × (out ≡ written_from h g k out)
 
-  pub too_small : length out ≤ header_size + 16 * length g + 16 * length k → Unwritten (message h g k) out
-  unfolding has_room total
-  too_small p =
-      let f = message h g k in
-      no_room f out (ap (λ (b : Bool). writable f && b) (lt-leb (line_length (count f)) (length out) (omega arith)) ∙ and-false (writable f))
+  pub not_listed : listed h g k ≡ false → UnwrittenFrom
+  unfolding length_from written_from
+  not_listed e = (rw e, rw e)
+
+  module _ (e : listed h g k ≡ true) where
+    unwritten : Unwritten (frame_from h g k) out → UnwrittenFrom
+    unwritten u = (u.0 ∙ sym (from_listed h g k out e).0, u.1 ∙ sym (from_listed h g k out e).1)
+
+    pub from_not_proper : proper_header capacity (values (frame_from h g k)) ≡ false → UnwrittenFrom
+    unfolding proper proper_header unused_zero
+    from_not_proper p = unwritten (not_proper (frame_from h g k) out p)
+
+    pub too_small : length out ≤ 36 + 16 * length g + 16 * length k → UnwrittenFrom
+    unfolding has_room total
+    too_small p =
+        let f = frame_from h g k in
+        unwritten
+        (no_room f out
+        (ap (λ (b : Bool). writable f && b) (lt-leb (line_length (count f)) (length out) (omega (arith, listed_count h g k e))) ∙ and-false (writable f)))
 
 -- ---- written, piece by piece
 
@@ -102,37 +136,37 @@ module _ (w p out : List ℕ) (at end : ℕ) (e : length w ≡ at) (le : at ≤ 
 front_size : (w out : List ℕ) (at : ℕ) → length w ≡ at → at ≤ length out → length (w ++ drop at out) ≡ length out
 front_size w out at e h = omega (arith, length-append w (drop at out), length-drop at out)
 
-module _ (out g k head hdr : List ℕ) (size : length head ≡ fields) (eh : hdr ≡ spell widths head) (room : header_size + 16 * length g + 16 * length k < length out) where
-  hdr_size : length hdr ≡ header_size
+module _ (out g k head hdr : List ℕ) (eight : length head ≡ 8) (eh : hdr ≡ spell widths head) (room : 36 + 16 * length g + 16 * length k < length out) where
+  hdr_size : length hdr ≡ 36
   unfolding total
-  hdr_size = ap length eh ∙ spell_size widths head size
+  hdr_size = ap length eh ∙ spell_size widths head eight
 
-  pub header_kept : length (hdr ++ drop header_size out) ≡ length out
-  header_kept = front_size hdr out header_size hdr_size (omega arith)
+  pub header_kept : length (hdr ++ drop 36 out) ≡ length out
+  header_kept = front_size hdr out 36 hdr_size (omega arith)
 
-  pub first_room : length (take (header_size + 16 * length g - header_size) (drop header_size (hdr ++ drop header_size out))) ≡ 16 * length g
-  first_room = piece_room hdr [] out header_size (header_size + 16 * length g) hdr_size (omega arith) (omega arith) ∙ omega arith
+  pub first_room : length (take (36 + 16 * length g - 36) (drop 36 (hdr ++ drop 36 out))) ≡ 16 * length g
+  first_room = piece_room hdr [] out 36 (36 + 16 * length g) hdr_size (omega arith) (omega arith) ∙ omega arith
 
   module _ (a : List ℕ) (ea : a ≡ spell (commands (length g)) g) where
     middle : ℕ
-    middle = header_size + 16 * length g
+    middle = 36 + 16 * length g
 
     first_size : length (hdr ++ a) ≡ middle
     unfolding middle
     first_size = omega (arith, length-append hdr a, hdr_size, words_size g a ea)
 
-    first_is : put_mid header_size (header_size + 16 * length g - header_size) (hdr ++ drop header_size out) a ≡ (hdr ++ a) ++ drop middle out
+    first_is : put_mid 36 (36 + 16 * length g - 36) (hdr ++ drop 36 out) a ≡ (hdr ++ a) ++ drop middle out
     unfolding middle
-    first_is = piece hdr a out header_size (header_size + 16 * length g) hdr_size (omega arith)
+    first_is = piece hdr a out 36 (36 + 16 * length g) hdr_size (omega arith)
 
-    pub first_kept : length (put_mid header_size (header_size + 16 * length g - header_size) (hdr ++ drop header_size out) a) ≡ length out
+    pub first_kept : length (put_mid 36 (36 + 16 * length g - 36) (hdr ++ drop 36 out) a) ≡ length out
     unfolding middle
     first_kept = ap length first_is ∙ front_size (hdr ++ a) out middle first_size (omega arith)
 
-    pub second_room : length (take (header_size + 16 * length g + 16 * length k - (header_size + 16 * length g)) (drop (header_size + 16 * length g) (put_mid header_size (header_size + 16 * length g - header_size) (hdr ++ drop header_size out) a))) ≡ 16 * length k
+    pub second_room : length (take (36 + 16 * length g + 16 * length k - (36 + 16 * length g)) (drop (36 + 16 * length g) (put_mid 36 (36 + 16 * length g - 36) (hdr ++ drop 36 out) a))) ≡ 16 * length k
     unfolding middle
     second_room =
-        let end = header_size + 16 * length g + 16 * length k in
+        let end = 36 + 16 * length g + 16 * length k in
         ap (λ (l : List ℕ). length (take (end - middle) (drop middle l))) first_is
         ∙ piece_room (hdr ++ a) [] out middle end first_size (omega arith) (omega arith)
         ∙ omega arith
@@ -140,11 +174,11 @@ module _ (out g k head hdr : List ℕ) (size : length head ≡ fields) (eh : hdr
     module _ (b : List ℕ) (eb : b ≡ spell (commands (length k)) k) where
       abbrev pub both : List ℕ
       both =
-          put_mid (header_size + 16 * length g) (header_size + 16 * length g + 16 * length k - (header_size + 16 * length g))
-          (put_mid header_size (header_size + 16 * length g - header_size) (hdr ++ drop header_size out) a) b
+          put_mid (36 + 16 * length g) (36 + 16 * length g + 16 * length k - (36 + 16 * length g))
+          (put_mid 36 (36 + 16 * length g - 36) (hdr ++ drop 36 out) a) b
 
       end : ℕ
-      end = header_size + 16 * length g + 16 * length k
+      end = 36 + 16 * length g + 16 * length k
 
       all_size : length ((hdr ++ a) ++ b) ≡ end
       unfolding end middle
@@ -170,25 +204,25 @@ module _ (out g k head hdr : List ℕ) (size : length head ≡ fields) (eh : hdr
           ∙ sym (append_assoc ((hdr ++ a) ++ b) (10 ∷ []) r)
           ∙ ap (λ (l : List ℕ). l ++ r) (ap (λ (l : List ℕ). l ++ 10 ∷ []) (append_assoc hdr a b) ∙ append_assoc hdr (a ++ b) (10 ∷ []))
 
-      pub all_written : (h : Heading) → head ≡ values (message h g k) → Sized h → proper_header capacity head ≡ true
+      pub all_written : (h : Heading) → head ≡ values (frame_from h g k) → listed h g k ≡ true → Sized h → proper_header capacity head ≡ true
           → ((i : ℕ) → get_or g i 0 < 2 ^ 64) → ((i : ℕ) → get_or k i 0 < 2 ^ 64)
-          → (header_size + 16 * length g + 16 * length k + 1 ≡ written_length (message h g k) out)
-          × (set both (header_size + 16 * length g + 16 * length k) 10 ≡ written (message h g k) out)
-      unfolding written_length written has_room total end
-      all_written h same s p fg fk =
-          let f = message h g k in
-          let good : proper capacity f ≡ true = sym (head_proper h g k head same) ∙ p in
+          → (36 + 16 * length g + 16 * length k + 1 ≡ length_from h g k out) × (set both (36 + 16 * length g + 16 * length k) 10 ≡ written_from h g k out)
+      unfolding written_length written has_room total proper proper_header unused_zero end
+      all_written h same e s p fg fk =
+          let f = frame_from h g k in
+          let good : proper capacity f ≡ true = ap (proper_header capacity) (sym same) ∙ p in
           let can : writable f ≡ true =
-          from_writable h g k good s (words_fit (length g) g refl fg) (words_fit (length k) k refl fk) in
-          let long : end + 1 ≡ line_length (count f) = omega arith in
+          from_writable h g k e good (sized_fits h g k s) (words_fit (length g) g refl fg) (words_fit (length k) k refl fk) in
+          let long : end + 1 ≡ line_length (count f) = omega (arith, listed_count h g k e) in
           let fine : has_room f (length out) ≡ true =
           and_both (writable f) (leb (line_length (count f)) (length out)) can (le-leb (line_length (count f)) (length out) (omega arith)) in
           let line : hdr ++ ((a ++ b) ++ 10 ∷ []) ≡ line_of f =
-          ap₂ (λ (x y : List ℕ). x ++ (y ++ 10 ∷ [])) (eh ∙ ap (spell widths) same) (ap₂ ◌++◌ ea eb) ∙ sym (from_line h g k good) in (
-            long ∙ sym (ap (λ (t : Bool). cond t (line_length (count f)) 0) fine),
+          ap₂ (λ (x y : List ℕ). x ++ (y ++ 10 ∷ [])) (eh ∙ ap (spell widths) same) (ap₂ ◌++◌ ea eb) ∙ sym (from_line h g k e good) in (
+            long ∙ sym (ap (λ (t : Bool). cond t (line_length (count f)) 0) fine) ∙ sym (from_listed h g k out e).0,
             put_is
                 ∙ ap₂ (λ (x : List ℕ) (n : ℕ). x ++ drop n out) line long
-                ∙ sym (ap (λ (t : Bool). cond t (line_of f ++ drop (line_length (count f)) out) out) fine),
+                ∙ sym (ap (λ (t : Bool). cond t (line_of f ++ drop (line_length (count f)) out) out) fine)
+                ∙ sym (from_listed h g k out e).1,
           )
 
 -- ---- a frame by value, written by its heading and its two lists
@@ -220,10 +254,13 @@ module _ (f : Frame) (out : List ℕ) (size : length f.words ≡ frame_capacity)
         rest = omega arith
 
     pub parts_written : all_zero (take (length f.words - count f) (drop (count f) f.words)) ≡ true → (r : ℕ) (put : List ℕ)
-        → (r ≡ written_length (message f.heading (first f) (take (count f - f.n) (drop f.n f.words))) out)
-        × (put ≡ written (message f.heading (first f) (take (count f - f.n) (drop f.n f.words))) out)
+        → (r ≡ length_from (head_of f) (first f) (take (count f - f.n) (drop f.n f.words)) out)
+        × (put ≡ written_from (head_of f) (first f) (take (count f - f.n) (drop f.n f.words)) out)
         → (r ≡ written_length f out) × (put ≡ written f out)
     parts_written z r put w =
-        let whole : message f.heading (first f) (take (count f - f.n) (drop f.n f.words)) ≡ f =
-        ap (message f.heading (first f)) second_is ∙ from_parts f size (omega arith) (ap all_zero (sym tail_is) ∙ z) in
-        (w.0 ∙ ap (λ (x : Frame). written_length x out) whole, w.1 ∙ ap (λ (x : Frame). written x out) whole)
+        let listed-all = lists_are f size (omega arith) in
+        let whole : frame_from (head_of f) (first f) (second f) ≡ f = from_parts f size (omega arith) (ap all_zero (sym tail_is) ∙ z) in
+        let lists = from_listed (head_of f) (first f) (second f) out listed-all in (
+          w.0 ∙ ap (λ (l : List ℕ). length_from (head_of f) (first f) l out) second_is ∙ lists.0 ∙ ap (λ (x : Frame). written_length x out) whole,
+          w.1 ∙ ap (λ (l : List ℕ). written_from (head_of f) (first f) l out) second_is ∙ lists.1 ∙ ap (λ (x : Frame). written x out) whole,
+        )

@@ -13,14 +13,14 @@ use Rattle.basics.specs.Bools.{and_left, and_right}
 use Rattle.basics.specs.Lists.{drop_zeros}
 use Rattle.roster.specs.Mask.{bit}
 use Rattle.words.specs.WordsLaws.{padded_zeros}
-use Rattle.frame.specs.declared.Head.{Head}
+use Rattle.frame.specs.declared.Heading.{Heading}
 use Rattle.frame.specs.Hex.{all_digits, numbers, all_fit, total}
 use Rattle.frame.specs.HexLaws.{fit_at, all_append, numbers_fit, numbers_take, length_numbers}
-use Rattle.frame.specs.Layout.{fields, KIND, N, M, command_width, frame_capacity, widths, count, line_length}
+use Rattle.frame.specs.Layout.{command_width, frame_capacity, widths, count, line_length}
 use Rattle.frame.specs.Kinds.{uses, is_kind, zero_unless, unused_zero}
 use Rattle.frame.specs.Format.{commands, line_feed, proper, framed, frame_of, is_line, nothing, reading_of, reading_with}
 use Rattle.frame.specs.FormatLaws.{total_commands}
-use Rattle.frame.specs.Code.Leaves.{header_size, NumbersIn, proper_header, Fitting, Headed, Counted, Found, HeadIn, head_of, no_head, body_good, body_reading, BodyIn}
+use Rattle.frame.specs.Code.Leaves.{NumbersIn, proper_header, Fitting, Headed, Counted, Found, HeadIn, heading_of, no_heading, body_good, body_reading, BodyIn}
 
 abbrev zeros : ℕ → List ℕ
 zeros n = replicate n 0
@@ -44,11 +44,11 @@ unfolding proper proper_header frame_of framed numbers unused_zero
 proper_header_lem limit l = refl
 
 -- the values that the header's digits spell fit their widths
-pub header_fits : (l : List ℕ) → line_length 0 ≤ length l → all_digits (take header_size l) ≡ true → (k : ℕ) → k < fields → get_or (numbers widths l) k 0 < 256 ^ get_or widths k 0
+pub header_fits : (l : List ℕ) → line_length 0 ≤ length l → all_digits (take 36 l) ≡ true → (k : ℕ) → k < 8 → get_or (numbers widths l) k 0 < 256 ^ get_or widths k 0
 unfolding total
 header_fits l long d k h =
     fit_at widths (numbers widths l)
-    (ap (all_fit widths) (sym (numbers_take widths l header_size (le_refl header_size))) ∙ numbers_fit widths (take header_size l) (length-take-le header_size l (omega arith)) d) k h
+    (ap (all_fit widths) (sym (numbers_take widths l 36 (le_refl 36))) ∙ numbers_fit widths (take 36 l) (length-take-le 36 l (omega arith)) d) k h
 
 -- the counts, as the code has them, are within the limit
 module _ (limit : ℕ) (l : List ℕ) (inv : Headed limit l) (n m : ℕ) (are : Counted l n m) where
@@ -56,9 +56,9 @@ module _ (limit : ℕ) (l : List ℕ) (inv : Headed limit l) (n m : ℕ) (are : 
   unfolding proper_header
   few =
       let h = numbers widths l in
-      let c = leb (get_or h N 0) limit && leb (get_or h M 0) limit in
-      let z = zero_unless (get_or uses (get_or h KIND 0) []) h in
-      ap₂ (λ (x y : ℕ). leb x limit && leb y limit) are.first are.second ∙ and_left c z (and_right (is_kind (get_or h KIND 0)) (c && z) inv.proper)
+      let c = leb (get_or h 6 0) limit && leb (get_or h 7 0) limit in
+      let z = zero_unless (get_or uses (get_or h 0 0) []) h in
+      ap₂ (λ (x y : ℕ). leb x limit && leb y limit) are.first are.second ∙ and_left c z (and_right (is_kind (get_or h 0 0)) (c && z) inv.proper)
 
   pub head_few : n + m ≤ limit + limit
   head_few = omega (arith, leb-true n limit (and_left (leb n limit) (leb m limit) few), leb-true m limit (and_right (leb n limit) (leb m limit) few))
@@ -76,36 +76,36 @@ module _ (l : List ℕ) (n m : ℕ) (are : Counted l n m) where
   unfolding frame_of framed
   counted = sym (ap₂ ◌+◌ are.first are.second)
 
-  size_is : line_length (count (frame_of l)) ≡ header_size + 16 * (n + m) + 1
+  size_is : line_length (count (frame_of l)) ≡ 36 + 16 * (n + m) + 1
   unfolding total
   size_is = omega (arith, counted)
 
   -- ---- after the header: the length, the line feed, and the digits of the commands
 
   last : ℕ
-  last = header_size + 16 * (n + m)
+  last = 36 + 16 * (n + m)
 
-  pub wrong_length : (length l ≡ header_size + 16 * (n + m) + 1 → ⊥) → false ≡ body_good l
+  pub wrong_length : (length l ≡ 36 + 16 * (n + m) + 1 → ⊥) → false ≡ body_good l
   unfolding body_good
   wrong_length e = rw (ne_eqb (length l) (line_length (count (frame_of l))) (λ p. e (p ∙ size_is)))
 
-  module _ (size : length l ≡ header_size + 16 * (n + m) + 1) where
+  module _ (size : length l ≡ 36 + 16 * (n + m) + 1) where
     right_length : eqb (length l) (line_length (count (frame_of l))) ≡ true
     right_length = eq-eqb (length l) (line_length (count (frame_of l))) (size ∙ sym size_is)
 
     -- and the digits are those of as many commands
-    pub digits_room : (k : ℕ) → k ≡ n + m → length (take (header_size + 16 * (n + m) - header_size) (drop header_size l)) ≡ 16 * k
-    digits_room k e = length-take-le (header_size + 16 * (n + m) - header_size) (drop header_size l) (omega (arith, length-drop header_size l)) ∙ omega arith
+    pub digits_room : (k : ℕ) → k ≡ n + m → length (take (36 + 16 * (n + m) - 36) (drop 36 l)) ≡ 16 * k
+    digits_room k e = length-take-le (36 + 16 * (n + m) - 36) (drop 36 l) (omega (arith, length-drop 36 l)) ∙ omega arith
 
     at_last : length l - 1 ≡ last
     unfolding last
     at_last = omega arith
 
-    command_part : take (length l - 1 - 2 * total widths) (drop (2 * total widths) l) ≡ take (last - header_size) (drop header_size l)
+    command_part : take (length l - 1 - 2 * total widths) (drop (2 * total widths) l) ≡ take (last - 36) (drop 36 l)
     unfolding total
-    command_part = ap (λ (k : ℕ). take (k - header_size) (drop header_size l)) at_last
+    command_part = ap (λ (k : ℕ). take (k - 36) (drop 36 l)) at_last
 
-    pub no_feed : (get_or l (header_size + 16 * (n + m)) 0 ≡ 10 → ⊥) → false ≡ body_good l
+    pub no_feed : (get_or l (36 + 16 * (n + m)) 0 ≡ 10 → ⊥) → false ≡ body_good l
     unfolding body_good last
     no_feed e =
         sym
@@ -113,30 +113,30 @@ module _ (l : List ℕ) (n m : ℕ) (are : Counted l n m) where
         right_length
         (ne_eqb (get_or l (length l - 1) 0) line_feed (λ p. e (ap (λ (k : ℕ). get_or l k 0) (sym at_last) ∙ p))))
 
-    module _ (feed : get_or l (header_size + 16 * (n + m)) 0 ≡ 10) where
+    module _ (feed : get_or l (36 + 16 * (n + m)) 0 ≡ 10) where
       right_feed : eqb (get_or l (length l - 1) 0) line_feed ≡ true
       unfolding last
       right_feed = eq-eqb (get_or l (length l - 1) 0) line_feed (ap (λ (k : ℕ). get_or l k 0) at_last ∙ feed)
 
-      pub good_is : body_good l ≡ all_digits (take (header_size + 16 * (n + m) - header_size) (drop header_size l))
+      pub good_is : body_good l ≡ all_digits (take (36 + 16 * (n + m) - 36) (drop 36 l))
       unfolding body_good last
       good_is =
           ap₂ (λ (a b : Bool). a && (b && all_digits (take (length l - 1 - 2 * total widths) (drop (2 * total widths) l)))) right_length right_feed
           ∙ ap all_digits command_part
 
       -- the commands as they are read, into k of the words
-      module _ (few : n + m ≤ frame_capacity) (k : ℕ) (e : k ≡ n + m) (good : Bool) (ys : List ℕ) (r : NumbersIn (commands k) (take (header_size + 16 * (n + m) - header_size) (drop header_size l)) good ys) where
+      module _ (few : n + m ≤ frame_capacity) (k : ℕ) (e : k ≡ n + m) (good : Bool) (ys : List ℕ) (r : NumbersIn (commands k) (take (36 + 16 * (n + m) - 36) (drop 36 l)) good ys) where
         words_are : good ≡ true → ys ++ drop (n + m) (zeros frame_capacity) ≡ (frame_of l).words
         unfolding frame_of framed total
         words_are g =
             let same : k ≡ count (frame_of l) = e ∙ sym counted in
-            let read : ys ≡ numbers (commands (count (frame_of l))) (drop header_size l) =
-            r.are g ∙ numbers_take (commands k) (drop header_size l) (header_size + 16 * (n + m) - header_size) (omega (arith, total_commands k))
-            ∙ ap (λ (j : ℕ). numbers (commands j) (drop header_size l)) same in
-            let size : length (numbers (commands (count (frame_of l))) (drop header_size l)) ≡ n + m =
-            length_numbers (commands (count (frame_of l))) (drop header_size l) ∙ length-replicate (count (frame_of l)) command_width ∙ counted in
+            let read : ys ≡ numbers (commands (count (frame_of l))) (drop 36 l) =
+            r.are g ∙ numbers_take (commands k) (drop 36 l) (36 + 16 * (n + m) - 36) (omega (arith, total_commands k))
+            ∙ ap (λ (j : ℕ). numbers (commands j) (drop 36 l)) same in
+            let size : length (numbers (commands (count (frame_of l))) (drop 36 l)) ≡ n + m =
+            length_numbers (commands (count (frame_of l))) (drop 36 l) ∙ length-replicate (count (frame_of l)) command_width ∙ counted in
             ap₂ (λ (s t : List ℕ). s ++ t) read (drop_zeros (n + m) frame_capacity ∙ ap (λ (j : ℕ). zeros (frame_capacity - j)) (sym size))
-            ∙ padded_zeros frame_capacity (numbers (commands (count (frame_of l))) (drop header_size l)) (omega (arith, size))
+            ∙ padded_zeros frame_capacity (numbers (commands (count (frame_of l))) (drop 36 l)) (omega (arith, size))
 
         pub body_in : {ws : List ℕ} → ws ≡ replicate frame_capacity 0 → BodyIn l good (ys ++ drop (n + m) ws)
         body_in z = record { is = r.all ∙ sym good_is; words = λ g. ap (λ (t : List ℕ). ys ++ drop (n + m) t) z ∙ words_are g }
@@ -152,7 +152,7 @@ module _ (limit : ℕ) (l : List ℕ) (kinds : ℕ) where
   unfolding reading_of
   no_line e = rw e
 
-  pub too_short : length l < header_size + 1 → nothing ≡ reading_of limit l kinds
+  pub too_short : length l < 37 → nothing ≡ reading_of limit l kinds
   unfolding is_line total
   too_short h =
       no_line
@@ -171,69 +171,69 @@ module _ (limit : ℕ) (l : List ℕ) (kinds : ℕ) where
       size : Bool
       size = eqb (length l) (line_length (count (frame_of l)))
 
-  module _ (long : header_size + 1 ≤ length l) where
-    digits_are : all_digits (take (length l - 1) l) ≡ (all_digits (take header_size l) && all_digits (take (length l - 1 - header_size) (drop header_size l)))
+  module _ (long : 37 ≤ length l) where
+    digits_are : all_digits (take (length l - 1) l) ≡ (all_digits (take 36 l) && all_digits (take (length l - 1 - 36) (drop 36 l)))
     digits_are =
-        let n : length l - 1 ≡ header_size + (length l - 1 - header_size) = omega arith in
-        ap (λ (k : ℕ). all_digits (take k l)) n ∙ ap all_digits (take-add header_size (length l - 1 - header_size) l)
-        ∙ all_append (take header_size l) (take (length l - 1 - header_size) (drop header_size l))
+        let n : length l - 1 ≡ 36 + (length l - 1 - 36) = omega arith in
+        ap (λ (k : ℕ). all_digits (take k l)) n ∙ ap all_digits (take-add 36 (length l - 1 - 36) l)
+        ∙ all_append (take 36 l) (take (length l - 1 - 36) (drop 36 l))
 
-    pub not_spelled : all_digits (take header_size l) ≡ false → nothing ≡ reading_of limit l kinds
+    pub not_spelled : all_digits (take 36 l) ≡ false → nothing ≡ reading_of limit l kinds
     unfolding is_line
     not_spelled e = no_line (rw (digits_are, e))
 
-  pub not_taken : bit kinds (get_or (numbers widths l) KIND 0) ≡ false → nothing ≡ reading_of limit l kinds
+  pub not_taken : bit kinds (get_or (numbers widths l) 0 0) ≡ false → nothing ≡ reading_of limit l kinds
   unfolding reading_of frame_of framed
   not_taken e =
       sym
       (ap (λ (b : Bool). cond (is_line limit l && b) (record { found = true; frame = frame_of l }) nothing) e
       ∙ ap (λ (b : Bool). cond b (record { found = true; frame = frame_of l }) nothing) (and-false (is_line limit l)))
 
-  pub whole_line : Headed limit l → bit kinds (get_or (numbers widths l) KIND 0) ≡ true → body_reading l ≡ reading_of limit l kinds
+  pub whole_line : Headed limit l → bit kinds (get_or (numbers widths l) 0 0) ≡ true → body_reading l ≡ reading_of limit l kinds
   unfolding reading_of body_reading body_good is_line total frame_of framed
   whole_line inv b =
-      let d = all_digits (take (length l - 1 - header_size) (drop header_size l)) in
+      let d = all_digits (take (length l - 1 - 36) (drop 36 l)) in
       let c = eqb (get_or l (length l - 1) 0) line_feed in
       let s = eqb (length l) (line_length (count (frame_of l))) in
       let digits : all_digits (take (length l - 1) l) ≡ d =
       digits_are inv.long ∙ ap (λ (a : Bool). a && d) inv.spelled in
       let fine : proper limit (frame_of l) ≡ true = proper_header_lem limit l ∙ inv.proper in
-      let same : (is_line limit l && bit kinds (frame_of l).heading.kind) ≡ body_good l =
+      let same : (is_line limit l && bit kinds (frame_of l).kind) ≡ body_good l =
       ap₂ ◌&&◌ (ap₂ (λ (x y : Bool). (x && c) && (s && y)) digits fine) b ∙ turned d c s in
       sym (ap (λ (t : Bool). cond t (record { found = true; frame = frame_of l }) nothing) same)
 
 -- ---- the line after its header was read
 
-module _ (limit : ℕ) (l h : List ℕ) (kinds : ℕ) (long : header_size + 1 ≤ length l) (good : Bool) (r : NumbersIn widths (take header_size l) good h) where
+module _ (limit : ℕ) (l h : List ℕ) (kinds : ℕ) (long : 37 ≤ length l) (good : Bool) (r : NumbersIn widths (take 36 l) good h) where
   pub head_not_spelled : good ≡ false → nothing ≡ reading_of limit l kinds
   head_not_spelled g = not_spelled limit l kinds long (sym r.all ∙ g)
 
   module _ (g : good ≡ true) where
     values_are : h ≡ numbers widths l
     unfolding total
-    values_are = r.are g ∙ numbers_take widths l header_size (le_refl header_size)
+    values_are = r.are g ∙ numbers_take widths l 36 (le_refl 36)
 
-    pub kind_fits : get_or h KIND 0 < 256
+    pub kind_fits : get_or h 0 0 < 256
     unfolding total
-    kind_fits = subst (λ (xs : List ℕ). get_or xs KIND 0 < 256) (sym values_are) (header_fits l long (sym r.all ∙ g) KIND (lit< tt))
+    kind_fits = subst (λ (xs : List ℕ). get_or xs 0 0 < 256) (sym values_are) (header_fits l long (sym r.all ∙ g) 0 (lit< tt))
 
     pub head_not_proper : proper_header limit h ≡ false → nothing ≡ reading_of limit l kinds
     head_not_proper e = not_proper limit l kinds (ap (proper_header limit) (sym values_are) ∙ e)
 
-    pub head_not_taken : bit kinds (get_or h KIND 0) ≡ false → nothing ≡ reading_of limit l kinds
-    head_not_taken e = not_taken limit l kinds (ap (λ (xs : List ℕ). bit kinds (get_or xs KIND 0)) (sym values_are) ∙ e)
+    pub head_not_taken : bit kinds (get_or h 0 0) ≡ false → nothing ≡ reading_of limit l kinds
+    head_not_taken e = not_taken limit l kinds (ap (λ (xs : List ℕ). bit kinds (get_or xs 0 0)) (sym values_are) ∙ e)
 
-    pub head_found : proper_header limit h ≡ true → bit kinds (get_or h KIND 0) ≡ true → {hd : Head} → hd ≡ head_of h → HeadIn limit l kinds hd
+    pub head_found : proper_header limit h ≡ true → bit kinds (get_or h 0 0) ≡ true → {hd : Heading} → hd ≡ heading_of h → HeadIn limit l kinds hd
     unfolding total
     head_found e b f =
         record {
           found = λ p.
               record {
                 headed = record { long = long; spelled = sym r.all ∙ g; proper = ap (proper_header limit) (sym values_are) ∙ e };
-                is = f ∙ ap head_of values_are;
-                taken = ap (λ (xs : List ℕ). bit kinds (get_or xs KIND 0)) (sym values_are) ∙ b;
+                heading = f ∙ ap heading_of values_are;
+                taken = ap (λ (xs : List ℕ). bit kinds (get_or xs 0 0)) (sym values_are) ∙ b;
               };
-          missing = λ p. absurd (true≢false (sym (ap (λ (x : Head). x.found) f) ∙ p));
+          missing = λ p. absurd (true≢false (sym (ap (λ (x : Heading). x.found) f) ∙ p));
         }
 
     pub head_fitting : Fitting h
@@ -241,19 +241,19 @@ module _ (limit : ℕ) (l h : List ℕ) (kinds : ℕ) (long : header_size + 1 �
     head_fitting = subst Fitting (sym values_are) (header_fits l long (sym r.all ∙ g))
 
 -- where there is no frame, none is found
-pub no_head_lem : {limit : ℕ} {l : List ℕ} {kinds : ℕ} {hd : Head} → hd ≡ no_head → nothing ≡ reading_of limit l kinds → HeadIn limit l kinds hd
+pub no_head_lem : {limit : ℕ} {l : List ℕ} {kinds : ℕ} {hd : Heading} → hd ≡ no_heading → nothing ≡ reading_of limit l kinds → HeadIn limit l kinds hd
 no_head_lem e f =
     record {
-      found = λ p. absurd (true≢false (sym p ∙ ap (λ (x : Head). x.found) e));
-      missing = λ p. record { is = e; none = f };
+      found = λ p. absurd (true≢false (sym p ∙ ap (λ (x : Heading). x.found) e));
+      missing = λ p. record { heading = e; none = f };
     }
 
 -- ---- the line after its header was found
 
-pub found_counted : {limit : ℕ} {l : List ℕ} {kinds : ℕ} {hd : Head} → Found limit l kinds hd → Counted l hd.n hd.m
-found_counted f = record { first = ap (λ (x : Head). x.n) f.is; second = ap (λ (x : Head). x.m) f.is }
+pub found_counted : {limit : ℕ} {l : List ℕ} {kinds : ℕ} {hd : Heading} → Found limit l kinds hd → Counted l hd.n hd.m
+found_counted f = record { first = ap (λ (x : Heading). x.n) f.heading; second = ap (λ (x : Heading). x.m) f.heading }
 
-module _ (limit : ℕ) (l : List ℕ) (kinds : ℕ) (hd : Head) (f : Found limit l kinds hd) where
+module _ (limit : ℕ) (l : List ℕ) (kinds : ℕ) (hd : Heading) (f : Found limit l kinds hd) where
   judged : (good : Bool) → good ≡ body_good l → cond good (record { found = true; frame = frame_of l }) nothing ≡ reading_of limit l kinds
   unfolding body_reading
   judged good e = ap (λ (b : Bool). cond b (record { found = true; frame = frame_of l }) nothing) e ∙ whole_line limit l kinds f.headed f.taken
@@ -263,11 +263,11 @@ module _ (limit : ℕ) (l : List ℕ) (kinds : ℕ) (hd : Head) (f : Found limit
 
   pub rest_good : {ws : List ℕ} → true ≡ body_good l → ws ≡ (frame_of l).words → reading_with hd ws ≡ reading_of limit l kinds
   unfolding frame_of framed
-  rest_good e w = ap₂ reading_with f.is w ∙ judged true e
+  rest_good e w = ap₂ reading_with f.heading w ∙ judged true e
 
-pub none_read : (limit : ℕ) (l : List ℕ) (kinds : ℕ) {hd : Head} → hd ≡ no_head → nothing ≡ reading_of limit l kinds
+pub none_read : (limit : ℕ) (l : List ℕ) (kinds : ℕ) {hd : Heading} → hd ≡ no_heading → nothing ≡ reading_of limit l kinds
     → reading_with hd (replicate frame_capacity 0) ≡ reading_of limit l kinds
-none_read limit l kinds e f = ap (λ (x : Head). reading_with x (replicate frame_capacity 0)) e ∙ f
+none_read limit l kinds e f = ap (λ (x : Heading). reading_with x (replicate frame_capacity 0)) e ∙ f
 
 -- the limit as the code has it
 pub same_limit : {a b : ℕ} (l : List ℕ) (kinds : ℕ) → a ≡ b → reading_of a l kinds ≡ reading_of b l kinds

@@ -14,7 +14,7 @@ use Rattle.basics.specs.Lists.{drop_next}
 use Rattle.frame.specs.declared.Spelled.{Spelled}
 use Rattle.frame.specs.Hex.{all_digits, number, digits_of, spell, numbers, total}
 use Rattle.frame.specs.HexLaws.{all_append, length_digits}
-use Rattle.frame.specs.Layout.{fields, widths, command_width}
+use Rattle.frame.specs.Layout.{widths, command_width}
 use Rattle.frame.specs.Format.{commands}
 use Rattle.frame.specs.FormatLaws.{total_commands}
 use Rattle.frame.specs.Code.Leaves.{number_in, NumbersIn}
@@ -23,13 +23,13 @@ use Rattle.frame.specs.Code.Leaves.{number_in, NumbersIn}
 width_test : ℕ → Bool
 width_test k = leb (get_or widths k 0) 8
 
-all_widths : every_below fields width_test ≡ true
+all_widths : every_below 8 width_test ≡ true
 unfolding every_below width_test
 all_widths = refl
 
-pub width_most : (k : ℕ) → k < fields → get_or widths k 0 ≤ 8
+pub width_most : (k : ℕ) → k < 8 → get_or widths k 0 ≤ 8
 unfolding width_test
-width_most k h = leb-true (get_or widths k 0) 8 (every_at fields width_test all_widths k h)
+width_most k h = leb-true (get_or widths k 0) 8 (every_at 8 width_test all_widths k h)
 
 -- the bytes from a place on
 total_next : (ws : List ℕ) (k : ℕ) → k < length ws → total (drop k ws) ≡ get_or ws k 0 + total (drop (k + 1) ws)

@@ -15,7 +15,6 @@ use Rattle.basics.specs.Bools.{and_left, and_right, every_at, every_below}
 use Rattle.frame.specs.declared.Spelled.{Spelled}
 use Rattle.frame.specs.Hex.{digit, is_digit, value_of, all_digits, byte_of, number_from, number, digits_of}
 use Rattle.frame.specs.HexLaws.{value_lt}
-use Rattle.frame.specs.Layout.{fields, KIND, N, M}
 use Rattle.frame.specs.Kinds.{uses, is_kind, zero_unless}
 use Rattle.frame.specs.Format.{all_zero}
 use Rattle.frame.specs.Code.Leaves.{full_stop, digit_in, number_in, proper_header}
@@ -41,16 +40,16 @@ row_next : (r : List Bool) (i : ℕ) → i < length r → drop i r ≡ get_or r 
 row_next r i h = rw (add-one) (drop-cons r i false h)
 
 row_test : ℕ → Bool
-row_test k = eqb (length (get_or uses k [])) fields
+row_test k = eqb (length (get_or uses k [])) 8
 
 all_rows : every_below 11 row_test ≡ true
 unfolding every_below row_test uses
 all_rows = refl
 
 -- each row has an entry for each field
-pub row_length : (k : ℕ) → k < 11 → length (get_or uses k []) ≡ fields
+pub row_length : (k : ℕ) → k < 11 → length (get_or uses k []) ≡ 8
 unfolding row_test
-row_length k h = eqb-true (length (get_or uses k [])) fields (every_at 11 row_test all_rows k h)
+row_length k h = eqb-true (length (get_or uses k [])) 8 (every_at 11 row_test all_rows k h)
 
 pub unused_stop : (r : List Bool) (l : List ℕ) (i : ℕ) → i < length r → i < length l → (get_or r i false || eqb (get_or l i 0) 0) ≡ false
     → zero_unless (drop i r) (drop i l) ≡ false
@@ -84,24 +83,24 @@ fine_is c = go (is_digit c) refl
 -- ---- a header's values
 
 abbrev pub known : List ℕ → Bool
-known h = leb 1 (get_or h KIND 0) && ltb (get_or h KIND 0) 11
+known h = leb 1 (get_or h 0 0) && ltb (get_or h 0 0) 11
 
 abbrev pub few : ℕ → List ℕ → Bool
-few limit h = leb (get_or h N 0) limit && leb (get_or h M 0) limit
+few limit h = leb (get_or h 6 0) limit && leb (get_or h 7 0) limit
 
 module _ (limit : ℕ) (h : List ℕ) where
   -- an unknown kind, counts too high, and otherwise the fields that the kind doesn't use
   pub proper_unknown : known h ≡ false → proper_header limit h ≡ false
   unfolding proper_header is_kind uses
-  proper_unknown e = ap (λ (b : Bool). b && (few limit h && zero_unless (get_or uses (get_or h KIND 0) []) h)) e
+  proper_unknown e = ap (λ (b : Bool). b && (few limit h && zero_unless (get_or uses (get_or h 0 0) []) h)) e
 
   pub proper_many : known h ≡ true → few limit h ≡ false → proper_header limit h ≡ false
   unfolding proper_header is_kind uses
-  proper_many e f = ap₂ (λ (a b : Bool). a && (b && zero_unless (get_or uses (get_or h KIND 0) []) h)) e f
+  proper_many e f = ap₂ (λ (a b : Bool). a && (b && zero_unless (get_or uses (get_or h 0 0) []) h)) e f
 
-  pub proper_rest : known h ≡ true → few limit h ≡ true → proper_header limit h ≡ zero_unless (get_or uses (get_or h KIND 0) []) h
+  pub proper_rest : known h ≡ true → few limit h ≡ true → proper_header limit h ≡ zero_unless (get_or uses (get_or h 0 0) []) h
   unfolding proper_header is_kind uses
-  proper_rest e f = ap₂ (λ (a b : Bool). a && (b && zero_unless (get_or uses (get_or h KIND 0) []) h)) e f
+  proper_rest e f = ap₂ (λ (a b : Bool). a && (b && zero_unless (get_or uses (get_or h 0 0) []) h)) e f
 
 -- ---- one number that is read
 

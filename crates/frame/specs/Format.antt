@@ -4,7 +4,6 @@ use Rattle.words.specs.Sizes.{capacity}
 use Rattle.words.specs.Words.{padded}
 use Rattle.frame.specs.declared.Frame.{Frame}
 use Rattle.frame.specs.declared.Heading.{Heading}
-use Rattle.frame.specs.declared.Head.{Head}
 use Rattle.frame.specs.declared.Reading.{Reading}
 use Rattle.roster.specs.Mask.{bit}
 use Rattle.frame.specs.Hex.{all_digits, spell, numbers, all_fit, total}
@@ -24,7 +23,7 @@ line_of f = spell widths (values f) ++ (spell (commands (count f)) f.words ++ li
 
 -- what FORM asks of a frame's values: a known kind, n and m at most the limit, and 0 in each field that the kind doesn't use
 unfoldable pub proper : ℕ → Frame → Bool
-proper limit f = is_kind f.heading.kind && ((leb f.n limit && leb f.m limit) && unused_zero f)
+proper limit f = is_kind f.kind && ((leb f.n limit && leb f.m limit) && unused_zero f)
 
 -- whether all words are 0
 unfoldable pub all_zero : List ℕ → Bool
@@ -61,18 +60,43 @@ nothing = record { found = false; frame = blank }
 
 -- what is read of a line by a role that takes these kinds (kind k is bit k), n and m being at most the limit: FORM is given exactly if nothing is found
 unfoldable pub reading_of : ℕ → List ℕ → ℕ → Reading
-reading_of limit l kinds = cond (is_line limit l && bit kinds (frame_of l).heading.kind) (record { found = true; frame = frame_of l }) nothing
+reading_of limit l kinds = cond (is_line limit l && bit kinds (frame_of l).kind) (record { found = true; frame = frame_of l }) nothing
 
--- a frame whose heading and counts are apart from its words, and what is read so
-abbrev pub frame_with : Head → List ℕ → Frame
-frame_with h ws = record { heading = h.heading; n = h.n; m = h.m; words = ws }
+-- the heading of a frame, or of none
+abbrev pub head_with : Bool → Frame → Heading
+head_with found f =
+    record {
+      found = found;
+      kind = f.kind;
+      sender = f.sender;
+      view = f.view;
+      ballot = f.ballot;
+      proven_ballot = f.proven_ballot;
+      mask = f.mask;
+      n = f.n;
+      m = f.m;
+    }
 
-abbrev pub reading_with : Head → List ℕ → Reading
+abbrev pub head_of : Frame → Heading
+head_of f = head_with true f
+
+-- a frame whose heading and words are apart, and what is read so
+abbrev pub frame_with : Heading → List ℕ → Frame
+frame_with h ws =
+    record {
+      kind = h.kind;
+      sender = h.sender;
+      view = h.view;
+      ballot = h.ballot;
+      proven_ballot = h.proven_ballot;
+      mask = h.mask;
+      n = h.n;
+      m = h.m;
+      words = ws;
+    }
+
+abbrev pub reading_with : Heading → List ℕ → Reading
 reading_with h ws = record { found = h.found; frame = frame_with h ws }
-
--- the frame with this heading and these two lists of commands
-abbrev pub message : Heading → List ℕ → List ℕ → Frame
-message h g k = record { heading = h; n = length g; m = length k; words = padded frame_capacity (g ++ k) }
 
 -- FORM, for a role that takes these kinds: "not such a line; unknown kind or one this role doesn't take; unused field not 0; n or m over" the limit
 unfoldable pub malformed : ℕ → List ℕ → ℕ → Bool
@@ -88,3 +112,16 @@ written_length f out = cond (has_room f (length out)) (line_length (count f)) 0
 
 unfoldable pub written : Frame → List ℕ → List ℕ
 written f out = cond (has_room f (length out)) (line_of f ++ drop (line_length (count f)) out) out
+
+-- the frame with this heading and these two lists of commands, whether the lists are n and m long, and what writing it answers and leaves
+abbrev pub frame_from : Heading → List ℕ → List ℕ → Frame
+frame_from h g k = frame_with h (padded frame_capacity (g ++ k))
+
+unfoldable pub listed : Heading → List ℕ → List ℕ → Bool
+listed h g k = eqb (length g) h.n && eqb (length k) h.m
+
+unfoldable pub length_from : Heading → List ℕ → List ℕ → List ℕ → ℕ
+length_from h g k out = cond (listed h g k) (written_length (frame_from h g k) out) 0
+
+unfoldable pub written_from : Heading → List ℕ → List ℕ → List ℕ → List ℕ
+written_from h g k out = cond (listed h g k) (written (frame_from h g k) out) out

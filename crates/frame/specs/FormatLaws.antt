@@ -41,21 +41,21 @@ total_commands (suc k) = omega (arith, total_commands k)
 -- ---- what is known of a proper and of a writable frame
 
 module _ (limit : ℕ) (f : Frame) (p : proper limit f ≡ true) where
-  pub proper_kind : is_kind f.heading.kind ≡ true
+  pub proper_kind : is_kind f.kind ≡ true
   unfolding proper
-  proper_kind = and_left (is_kind f.heading.kind) ((leb f.n limit && leb f.m limit) && unused_zero f) p
+  proper_kind = and_left (is_kind f.kind) ((leb f.n limit && leb f.m limit) && unused_zero f) p
 
   counts : (leb f.n limit && leb f.m limit) ≡ true
   unfolding proper
   counts =
       and_left (leb f.n limit && leb f.m limit) (unused_zero f)
-      (and_right (is_kind f.heading.kind) ((leb f.n limit && leb f.m limit) && unused_zero f) p)
+      (and_right (is_kind f.kind) ((leb f.n limit && leb f.m limit) && unused_zero f) p)
 
   pub proper_unused : unused_zero f ≡ true
   unfolding proper
   proper_unused =
       and_right (leb f.n limit && leb f.m limit) (unused_zero f)
-      (and_right (is_kind f.heading.kind) ((leb f.n limit && leb f.m limit) && unused_zero f) p)
+      (and_right (is_kind f.kind) ((leb f.n limit && leb f.m limit) && unused_zero f) p)
 
   pub proper_n : f.n ≤ limit
   proper_n = leb-true f.n limit (and_left (leb f.n limit) (leb f.m limit) counts)
@@ -437,24 +437,24 @@ writable_m f e = proper_m capacity f (writable_is f e).values_proper
 
 module _ (limit : ℕ) (l : List ℕ) (kinds : ℕ) where
   -- found exactly if the line is one and its kind is taken, and then it is the line's frame
-  pub found_is : (reading_of limit l kinds).found ≡ (is_line limit l && bit kinds (frame_of l).heading.kind)
+  pub found_is : (reading_of limit l kinds).found ≡ (is_line limit l && bit kinds (frame_of l).kind)
   unfolding reading_of
-  found_is = go (is_line limit l && bit kinds (frame_of l).heading.kind)
+  found_is = go (is_line limit l && bit kinds (frame_of l).kind)
     where
       go : (b : Bool) → (cond b (record { found = true; frame = frame_of l }) nothing).found ≡ b
       go true = refl
       go false = refl
 
-  pub reading_line : is_line limit l ≡ true → bit kinds (frame_of l).heading.kind ≡ true → reading_of limit l kinds ≡ record { found = true; frame = frame_of l }
+  pub reading_line : is_line limit l ≡ true → bit kinds (frame_of l).kind ≡ true → reading_of limit l kinds ≡ record { found = true; frame = frame_of l }
   unfolding reading_of
   reading_line p q = rw (p, q)
 
   module _ (e : (reading_of limit l kinds).found ≡ true) where
     pub found_line : is_line limit l ≡ true
-    found_line = and_left (is_line limit l) (bit kinds (frame_of l).heading.kind) (sym found_is ∙ e)
+    found_line = and_left (is_line limit l) (bit kinds (frame_of l).kind) (sym found_is ∙ e)
 
-    pub found_taken : bit kinds (frame_of l).heading.kind ≡ true
-    found_taken = and_right (is_line limit l) (bit kinds (frame_of l).heading.kind) (sym found_is ∙ e)
+    pub found_taken : bit kinds (frame_of l).kind ≡ true
+    found_taken = and_right (is_line limit l) (bit kinds (frame_of l).kind) (sym found_is ∙ e)
 
     pub found_frame : (reading_of limit l kinds).frame ≡ frame_of l
     found_frame = ap (λ (r : Reading). r.frame) (reading_line found_line found_taken)
@@ -475,7 +475,7 @@ module _ (limit : ℕ) (l : List ℕ) (kinds : ℕ) where
   -- what holds of each proper frame and of the blank one holds of what is read, found or not
   read_frame : (P : Frame → Type 0) → ((f : Frame) → proper limit f ≡ true → P f) → P blank → P (reading_of limit l kinds).frame
   unfolding reading_of
-  read_frame P some none = go (is_line limit l) refl (bit kinds (frame_of l).heading.kind)
+  read_frame P some none = go (is_line limit l) refl (bit kinds (frame_of l).kind)
     where
       go : (b : Bool) → is_line limit l ≡ b → (d : Bool) → P (cond (b && d) (record { found = true; frame = frame_of l }) nothing).frame
       go true e true = some (frame_of l) (line_is limit l e).values_proper

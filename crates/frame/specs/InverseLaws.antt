@@ -8,7 +8,7 @@ use Rattle.words.specs.Sizes.{capacity}
 use Rattle.frame.specs.Hex.{all_fit}
 use Rattle.frame.specs.declared.Frame.{Frame}
 use Rattle.frame.specs.Layout.{longest, line_length, count, frame_capacity, with_values, header}
-use Rattle.frame.specs.Kinds.{P1B, uses, is_kind, unused_zero, zero_unless}
+use Rattle.frame.specs.Kinds.{uses, is_kind, unused_zero, zero_unless}
 use Rattle.frame.specs.Format.{proper, all_zero, fits, line_of, is_line, frame_of, writable, reading_of, has_room, written_length, written}
 use Rattle.frame.specs.FormatLaws.{writable_n, writable_m, frame_of_line, line_is_line, line_of_frame, frame_is_writable, length_of_line, line_at_most, reading_line}
 
@@ -28,13 +28,13 @@ module _ (f : Frame) (out : List ℕ) (room : has_room f (length out) ≡ true) 
   written_front = rw room (take_at (line_of f) _ (written_length f out) (sym written_length_lem))
 
   -- reading what was written gives the frame, under each limit that its counts are within
-  pub read_what_was_written : (limit kinds : ℕ) → f.n ≤ limit → f.m ≤ limit → bit kinds f.heading.kind ≡ true
+  pub read_what_was_written : (limit kinds : ℕ) → f.n ≤ limit → f.m ≤ limit → bit kinds f.kind ≡ true
       → reading_of limit (take (written_length f out) (written f out)) kinds ≡ record { found = true; frame = f }
   read_what_was_written limit kinds n m b =
       rw (written_front, reading_line limit (line_of f) kinds (line_is_line limit f can_write n m) (rw (frame_of_line f can_write) b), frame_of_line f can_write)
 
   -- so under the capacity every frame that can be written is read back
-  pub whatever_was_written : (kinds : ℕ) → bit kinds f.heading.kind ≡ true
+  pub whatever_was_written : (kinds : ℕ) → bit kinds f.kind ≡ true
       → reading_of capacity (take (written_length f out) (written f out)) kinds ≡ record { found = true; frame = f }
   whatever_was_written kinds b = read_what_was_written capacity kinds (writable_n f can_write) (writable_m f can_write) b
 
@@ -111,7 +111,7 @@ kind_has_frame k p q = bare_each 10 refl k p q
 
 -- a P1B with two full lists has the longest line
 pub longest_line : Frame
-longest_line = with_values (P1B ∷ 0 ∷ 0 ∷ 0 ∷ 0 ∷ 0 ∷ capacity ∷ capacity ∷ []) (replicate frame_capacity 0)
+longest_line = with_values (3 ∷ 0 ∷ 0 ∷ 0 ∷ 0 ∷ 0 ∷ capacity ∷ capacity ∷ []) (replicate frame_capacity 0)
 
 pub longest_attained : (writable longest_line ≡ true) × (length (line_of longest_line) ≡ longest)
 unfolding longest_line writable proper is_kind uses unused_zero zero_unless all_zero fits all_fit

@@ -1,5 +1,5 @@
 -- The layout of a line: the fields of the header with their widths, the commands after it, and how long a line is.
-use Rattle.std.specs.Prelude.{ℕ, ◌+◌, ◌*◌, List, [], ◌∷◌, map, length, get_or, take, drop}
+use Rattle.std.specs.Prelude.{ℕ, ◌+◌, ◌*◌, List, [], ◌∷◌, map, get_or, take, drop}
 use Rattle.words.specs.Sizes.{capacity}
 use Rattle.frame.specs.declared.Frame.{Frame}
 use Rattle.frame.specs.Hex.{total}
@@ -12,42 +12,14 @@ pub record Field : Type 0 where
 -- "Bytes: kind 1, sender 1, view 4, ballot 4, proven ballot 4, mask 2 (site i is bit i), n 1, m 1, then n commands, then m."
 abbrev pub header : List Field
 header =
-    record { width = 1; value = λ f. f.heading.kind } ∷
-    record { width = 1; value = λ f. f.heading.sender } ∷
-    record { width = 4; value = λ f. f.heading.view.0 } ∷
-    record { width = 4; value = λ f. f.heading.ballot.0 } ∷
-    record { width = 4; value = λ f. f.heading.proven_ballot.0 } ∷
-    record { width = 2; value = λ f. f.heading.mask } ∷
+    record { width = 1; value = λ f. f.kind } ∷
+    record { width = 1; value = λ f. f.sender } ∷
+    record { width = 4; value = λ f. f.view.0 } ∷
+    record { width = 4; value = λ f. f.ballot.0 } ∷
+    record { width = 4; value = λ f. f.proven_ballot.0 } ∷
+    record { width = 2; value = λ f. f.mask } ∷
     record { width = 1; value = λ f. f.n } ∷
     record { width = 1; value = λ f. f.m } ∷ []
-
--- how many they are, and the place of each
-abbrev pub fields : ℕ
-fields = length header
-
-abbrev pub KIND : ℕ
-KIND = 0
-
-abbrev pub SENDER : ℕ
-SENDER = 1
-
-abbrev pub VIEW : ℕ
-VIEW = 2
-
-abbrev pub BALLOT : ℕ
-BALLOT = 3
-
-abbrev pub PROVEN-BALLOT : ℕ
-PROVEN-BALLOT = 4
-
-abbrev pub MASK : ℕ
-MASK = 5
-
-abbrev pub N : ℕ
-N = 6
-
-abbrev pub M : ℕ
-M = 7
 
 -- a command's width: "Eight bytes, big-endian"
 abbrev pub command_width : ℕ
@@ -68,17 +40,14 @@ values f = map (λ (d : Field). d.value f) header
 abbrev pub with_values : List ℕ → List ℕ → Frame
 with_values h ws =
     record {
-      heading =
-          record {
-            kind = get_or h KIND 0;
-            sender = get_or h SENDER 0;
-            view = record { 0 = get_or h VIEW 0 };
-            ballot = record { 0 = get_or h BALLOT 0 };
-            proven_ballot = record { 0 = get_or h PROVEN-BALLOT 0 };
-            mask = get_or h MASK 0;
-          };
-      n = get_or h N 0;
-      m = get_or h M 0;
+      kind = get_or h 0 0;
+      sender = get_or h 1 0;
+      view = record { 0 = get_or h 2 0 };
+      ballot = record { 0 = get_or h 3 0 };
+      proven_ballot = record { 0 = get_or h 4 0 };
+      mask = get_or h 5 0;
+      n = get_or h 6 0;
+      m = get_or h 7 0;
       words = ws;
     }
 

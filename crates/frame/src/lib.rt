@@ -15,52 +15,30 @@ pub const CAPACITY: usize = 2 * words::CAPACITY;
 // The longest line, with its line feed.
 pub const LONGEST: usize = 1061;
 
-// The kinds.
-pub const P1A: u8 = 1;
-
-pub const FAST: u8 = 2;
-
-pub const P1B: u8 = 3;
-
-pub const PROPOSE: u8 = 4;
-
-pub const P2A: u8 = 5;
-
-pub const VERIFY: u8 = 6;
-
-pub const P2B: u8 = 7;
-
-pub const SUSPICION: u8 = 8;
-
-pub const VIEWCHANGE: u8 = 9;
-
-pub const LEADER: u8 = 10;
-
-// What a frame says beside its commands: each field of the header but the two counts.
+// A frame by value: the first n words are its first list of commands, the next m its second, and those after them are 0.
 #[derive(Drop)]
-pub struct Heading {
+pub struct Frame {
     pub kind: u8,
     pub sender: u8,
     pub view: View,
     pub ballot: Ballot,
     pub proven_ballot: Ballot,
     pub mask: u16,
-}
-
-// A frame by value: the first n words are its first list of commands, the next m its second, and those after them are 0.
-#[derive(Drop)]
-pub struct Frame {
-    pub heading: Heading,
     pub n: u8,
     pub m: u8,
     pub words: [u64; CAPACITY],
 }
 
-// What reading finds in a line's header: a frame's heading and its two counts, or that there is no frame, and then all are 0.
+// A frame's fields but for its commands, and whether there is a frame; where there is none all are 0.
 #[derive(Drop)]
-pub struct Head {
+pub struct Heading {
     pub found: bool,
-    pub heading: Heading,
+    pub kind: u8,
+    pub sender: u8,
+    pub view: View,
+    pub ballot: Ballot,
+    pub proven_ballot: Ballot,
+    pub mask: u16,
     pub n: u8,
     pub m: u8,
 }
@@ -79,48 +57,28 @@ struct Spelled {
     value: u64,
 }
 
-// How many characters the header has, the shortest line, and a command.
+// How many characters the header has, the shortest line, and a command; the most commands of one list.
 const HEADER: usize = 36;
 
-const SHORTEST: usize = HEADER + 1;
+const SHORTEST: usize = 37;
 
 const COMMAND: usize = 16;
+
+const LIST: u8 = words::CAPACITY as u8;
 
 // The line feed.
 const FEED: u8 = 10;
 
-// The places of the header's fields, and how many there are.
-const KIND: usize = 0;
-
-const SENDER: usize = 1;
-
-const VIEW: usize = 2;
-
-const BALLOT: usize = 3;
-
-const PROVEN_BALLOT: usize = 4;
-
-const MASK: usize = 5;
-
-const N: usize = 6;
-
-const M: usize = 7;
-
-const FIELDS: usize = 8;
-
-// Their widths.
-const WIDTHS: [usize; FIELDS] = [1, 1, 4, 4, 4, 2, 1, 1];
+// The widths of the header's fields: kind, sender, view, ballot, proven ballot, mask, n, m.
+const WIDTHS: [usize; 8] = [1, 1, 4, 4, 4, 2, 1, 1];
 
 // The words of the table of kinds.
 const YES: bool = true;
 
 const NO: bool = false;
 
-// The rows of the table of kinds: 0, which is no kind, and the kinds.
-const ROWS: usize = LEADER as usize + 1;
-
-// Which of these fields each kind uses.
-const USES: [[bool; FIELDS]; ROWS] = [
+// Which of these fields each kind uses; 0 is no kind.
+const USES: [[bool; 8]; 11] = [
     [NO, NO, NO, NO, NO, NO, NO, NO],
     [YES, YES, YES, YES, NO, NO, NO, NO], // P1A
     [YES, YES, YES, YES, NO, NO, NO, NO], // FAST
@@ -179,7 +137,7 @@ fn read_header(values: &[u8; 256], digits: &[u8], head: &mut [u64]) -> bool
 {
     let mut at: usize = 0;
     let mut k: usize = 0;
-    while k < FIELDS {
+    while k < 8 {
         let width = WIDTHS[k];
         let end = at + 2 * width;
         let x = number(values, &digits[at..end], width);
@@ -214,12 +172,12 @@ fn read_words(values: &[u8; 256], digits: &[u8], words: &mut [u64]) -> bool
 
 // Whether each field that the kind doesn't use is 0.
 fn unused_zero(kind: usize, head: &[u64]) -> bool
-    requires { (kind < 11) × (length head.now ≡ layout.fields) }
+    requires { (kind < 11) × (length head.now ≡ 8) }
     ensures { result ≡ kinds.zero_unless (get_or kinds.uses kind []) head.now }
 {
     let uses = &USES;
     let mut k: usize = 0;
-    while k < FIELDS {
+    while k < 8 {
         let fine = uses[kind][k] | (head[k] == 0);
         if !fine {
             return false;
@@ -230,17 +188,17 @@ fn unused_zero(kind: usize, head: &[u64]) -> bool
 }
 
 // Whether a header's values are proper: the kind, the counts, and the fields that the kind doesn't use.
-fn proper(limit: usize, head: &[u64]) -> bool
-    requires { length head.now ≡ layout.fields }
+fn proper(limit: u8, head: &[u64]) -> bool
+    requires { length head.now ≡ 8 }
     ensures { result ≡ leaves.proper_header limit head.now }
 {
-    let kind = head[KIND];
-    let known = (1 <= kind) & (kind < ROWS as u64);
+    let kind = head[0];
+    let known = (1 <= kind) & (kind < 11);
     if !known {
         return false;
     }
     let most = limit as u64;
-    let few = (head[N] <= most) & (head[M] <= most);
+    let few = (head[6] <= most) & (head[7] <= most);
     if !few {
         return false;
     }
@@ -284,7 +242,7 @@ fn write_header(characters: &[u8], digits: &mut [u8], head: &[u64])
 {
     let mut at: usize = 0;
     let mut k: usize = 0;
-    while k < FIELDS {
+    while k < 8 {
         let width = WIDTHS[k];
         let end = at + 2 * width;
         write_number(characters, &mut digits[at..end], width, head[k]);
@@ -314,84 +272,63 @@ pub fn longest() -> usize
     LONGEST
 }
 
-// The kinds by their names, which are the numbers of their rows.
-pub fn all_kinds() -> [u8; 10]
-    ensures { result ≡ kinds.all }
+// The heading where there is no frame.
+fn no_heading() -> Heading
+    ensures { result ≡ leaves.no_heading }
 {
-    [
-        P1A, FAST, P1B, PROPOSE, P2A, VERIFY, P2B, SUSPICION, VIEWCHANGE, LEADER,
-    ]
-}
-
-// What is found where there is no frame.
-fn no_head() -> Head
-    ensures { result ≡ leaves.no_head }
-{
-    Head {
+    Heading {
         found: false,
-        heading: Heading {
-            kind: 0,
-            sender: 0,
-            view: View(0),
-            ballot: Ballot(0),
-            proven_ballot: Ballot(0),
-            mask: 0,
-        },
+        kind: 0,
+        sender: 0,
+        view: View(0),
+        ballot: Ballot(0),
+        proven_ballot: Ballot(0),
+        mask: 0,
         n: 0,
         m: 0,
     }
 }
 
-// The heading and the counts of a header's values.
-fn head_of(head: [u64; FIELDS]) -> Head
+// The heading of a header's values.
+fn heading_of(head: [u64; 8]) -> Heading
     requires { leaves.Fitting head }
-    ensures { result ≡ leaves.head_of head }
+    ensures { result ≡ leaves.heading_of head }
 {
-    let kind = head[KIND] as u8;
-    let sender = head[SENDER] as u8;
-    let view = head[VIEW] as u32;
-    let ballot = head[BALLOT] as u32;
-    let proven_ballot = head[PROVEN_BALLOT] as u32;
-    let mask = head[MASK] as u16;
-    let n = head[N] as u8;
-    let m = head[M] as u8;
-    Head {
+    Heading {
         found: true,
-        heading: Heading {
-            kind,
-            sender,
-            view: View(view),
-            ballot: Ballot(ballot),
-            proven_ballot: Ballot(proven_ballot),
-            mask,
-        },
-        n,
-        m,
+        kind: head[0] as u8,
+        sender: head[1] as u8,
+        view: View(head[2] as u32),
+        ballot: Ballot(head[3] as u32),
+        proven_ballot: Ballot(head[4] as u32),
+        mask: head[5] as u16,
+        n: head[6] as u8,
+        m: head[7] as u8,
     }
 }
 
-// What a line's header spells, if it is proper and the kind is one of the kinds.
-fn read_head(values: &[u8; 256], limit: usize, line: &[u8], kinds: u16) -> Head
+// The heading that a line's header spells, if it is proper and the kind is one of the kinds.
+fn read_head(values: &[u8; 256], limit: u8, line: &[u8], kinds: u16) -> Heading
     requires { values.now ≡ leaves.values }
     ensures { leaves.HeadIn limit line.now kinds result }
 {
     if line.len() < SHORTEST {
-        return no_head();
+        return no_heading();
     }
-    let mut head = [0u64; FIELDS];
+    let mut head = [0u64; 8];
     let spelled = read_header(values, &line[..HEADER], &mut head);
     if !spelled {
-        return no_head();
+        return no_heading();
     }
     let fine = proper(limit, &head);
     if !fine {
-        return no_head();
+        return no_heading();
     }
-    let taken = roster::contains(kinds, head[KIND] as u8);
+    let taken = roster::contains(kinds, head[0] as u8);
     if !taken {
-        return no_head();
+        return no_heading();
     }
-    head_of(head)
+    heading_of(head)
 }
 
 // Whether the rest of a line whose header was read is right, and the commands into words that are 0.
@@ -410,15 +347,21 @@ fn read_body(values: &[u8; 256], line: &[u8], n: u8, m: u8, words: &mut [u64]) -
     read_words(values, &line[HEADER..end], &mut words[..count])
 }
 
+// A limit, or the capacity of a list where the limit is more.
+fn within(limit: u8) -> u8
+    ensures { result ≡ min limit sizes.capacity }
+{
+    if limit <= LIST { limit } else { LIST }
+}
+
 // Reads a line of one of the kinds (kind k is bit k), with lists of at most `limit` commands, into a heading and lent words: the n commands, then
 // the m, then zeros. A limit over the capacity counts as the capacity.
-pub fn read_into(limit: u8, line: &[u8], kinds: u16, words: &mut [u64; CAPACITY]) -> Head
+pub fn read_into(limit: u8, line: &[u8], kinds: u16, words: &mut [u64; CAPACITY]) -> Heading
     ensures { format.reading_with result words.new ≡ format.reading_of (min limit sizes.capacity) line.now kinds }
 {
     *words = [0u64; CAPACITY];
     let values = &VALUES;
-    let most = words::smaller(limit as usize, words::CAPACITY);
-    let h = read_head(values, most, line, kinds);
+    let h = read_head(values, within(limit), line, kinds);
     if !h.found {
         return h;
     }
@@ -427,11 +370,11 @@ pub fn read_into(limit: u8, line: &[u8], kinds: u16, words: &mut [u64; CAPACITY]
         return h;
     }
     *words = [0u64; CAPACITY];
-    no_head()
+    no_heading()
 }
 
 // Reads a line of one of the kinds that has no commands.
-pub fn read_bare(line: &[u8], kinds: u16) -> Head
+pub fn read_bare(line: &[u8], kinds: u16) -> Heading
     ensures { format.reading_with result (replicate layout.frame_capacity 0) ≡ format.reading_of 0 line.now kinds }
 {
     let h = read_head(&VALUES, 0, line, kinds);
@@ -439,10 +382,10 @@ pub fn read_bare(line: &[u8], kinds: u16) -> Head
         return h;
     }
     if line.len() != SHORTEST {
-        return no_head();
+        return no_heading();
     }
     if line[HEADER] != FEED {
-        return no_head();
+        return no_heading();
     }
     h
 }
@@ -454,11 +397,18 @@ pub fn read(limit: u8, line: &[u8], kinds: u16) -> Reading
 {
     let mut words = [0u64; CAPACITY];
     let h = read_into(limit, line, kinds, &mut words);
-    let heading = h.heading;
+    let view = h.view;
+    let ballot = h.ballot;
+    let proven_ballot = h.proven_ballot;
     Reading {
         found: h.found,
         frame: Frame {
-            heading,
+            kind: h.kind,
+            sender: h.sender,
+            view,
+            ballot,
+            proven_ballot,
+            mask: h.mask,
             n: h.n,
             m: h.m,
             words,
@@ -466,29 +416,26 @@ pub fn read(limit: u8, line: &[u8], kinds: u16) -> Reading
     }
 }
 
-// The values of the header with this heading and these counts.
-fn values_of(h: Heading, n: usize, m: usize) -> [u64; FIELDS]
-    ensures { result ≡ leaves.values_of h n m }
+// Writes the line of a frame with this heading (`found` is not looked at) and these two lists of commands at the front of `out`, and answers its
+// length; 0, and nothing is written, where it has no line, the lists are not n and m long, or there is no room.
+pub fn write_from<'a>(h: Heading, g: &'a [u64], k: &'a [u64], out: &mut [u8]) -> usize
+    ensures { (result ≡ format.length_from h g.now k.now out.old) × (out.new ≡ format.written_from h g.now k.now out.old) }
 {
-    [
+    let listed = (g.len() == h.n as usize) & (k.len() == h.m as usize);
+    if !listed {
+        return 0;
+    }
+    let head = [
         h.kind as u64,
         h.sender as u64,
         h.view.0 as u64,
         h.ballot.0 as u64,
         h.proven_ballot.0 as u64,
         h.mask as u64,
-        n as u64,
-        m as u64,
-    ]
-}
-
-// Writes the line of the frame with this heading and these two lists of commands at the front of `out`, and answers its length; 0, and nothing is
-// written, where the frame has no line, a list is longer than there is room for in a frame, or the line is longer than `out`.
-pub fn write_from<'a>(h: Heading, g: &'a [u64], k: &'a [u64], out: &mut [u8]) -> usize
-    ensures { (result ≡ format.written_length (format.message h g.now k.now) out.old) × (out.new ≡ format.written (format.message h g.now k.now) out.old) }
-{
-    let head = values_of(h, g.len(), k.len());
-    let fine = proper(words::CAPACITY, &head);
+        h.n as u64,
+        h.m as u64,
+    ];
+    let fine = proper(LIST, &head);
     if !fine {
         return 0;
     }
@@ -519,5 +466,19 @@ pub fn write(frame: Frame, out: &mut [u8]) -> usize
     if !clear {
         return 0;
     }
-    write_from(frame.heading, &words[..n], &words[n..count], out)
+    let view = frame.view;
+    let ballot = frame.ballot;
+    let proven_ballot = frame.proven_ballot;
+    let h = Heading {
+        found: true,
+        kind: frame.kind,
+        sender: frame.sender,
+        view,
+        ballot,
+        proven_ballot,
+        mask: frame.mask,
+        n: frame.n,
+        m: frame.m,
+    };
+    write_from(h, &words[..n], &words[n..count], out)
 }

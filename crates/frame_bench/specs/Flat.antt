@@ -9,14 +9,14 @@ abbrev pub flat_with : ℕ → Frame → Flat
 flat_with found f =
     record {
       found = found;
-      kind = f.heading.kind;
-      sender = f.heading.sender;
+      kind = f.kind;
+      sender = f.sender;
       n = f.n;
       m = f.m;
-      mask = f.heading.mask;
-      view = f.heading.view;
-      ballot = f.heading.ballot;
-      proven_ballot = f.heading.proven_ballot;
+      mask = f.mask;
+      view = f.view.0;
+      ballot = f.ballot.0;
+      proven_ballot = f.proven_ballot.0;
       words = f.words;
     }
 
@@ -28,8 +28,12 @@ flat_of r = flat_with (cond r.found 1 0) r.frame
 abbrev pub framed : Flat → Frame
 framed f =
     record {
-      heading =
-          record { kind = f.kind; sender = f.sender; view = f.view; ballot = f.ballot; proven_ballot = f.proven_ballot; mask = f.mask };
+      kind = f.kind;
+      sender = f.sender;
+      view = record { 0 = f.view };
+      ballot = record { 0 = f.ballot };
+      proven_ballot = record { 0 = f.proven_ballot };
+      mask = f.mask;
       n = f.n;
       m = f.m;
       words = f.words;

@@ -4,7 +4,7 @@ ghost use Rattle.words.specs.Sizes.{limit};
 ghost use Rattle.frame.specs.Format.{reading_of, written_length, written};
 ghost use Rattle.frame_bench.specs.Flat.{flat_of, flat_with, framed};
 
-use frame::{Frame, Heading};
+use frame::Frame;
 use roster::{Ballot, View};
 
 // A frame as C lays it out, and whether there is one.
@@ -17,9 +17,9 @@ pub struct Flat {
     pub n: u8,
     pub m: u8,
     pub mask: u16,
-    pub view: View,
-    pub ballot: Ballot,
-    pub proven_ballot: Ballot,
+    pub view: u32,
+    pub ballot: u32,
+    pub proven_ballot: u32,
     pub words: [u64; frame::CAPACITY],
 }
 
@@ -27,21 +27,17 @@ pub struct Flat {
 fn flattened(found: u8, f: Frame) -> Flat
     ensures { result ≡ flat_with found f }
 {
-    let h = f.heading;
-    let view = h.view;
-    let ballot = h.ballot;
-    let proven = h.proven_ballot;
     let words = f.words;
     Flat {
         found,
-        kind: h.kind,
-        sender: h.sender,
+        kind: f.kind,
+        sender: f.sender,
         n: f.n,
         m: f.m,
-        mask: h.mask,
-        view,
-        ballot,
-        proven_ballot: proven,
+        mask: f.mask,
+        view: f.view.0,
+        ballot: f.ballot.0,
+        proven_ballot: f.proven_ballot.0,
         words,
     }
 }
@@ -66,19 +62,14 @@ pub extern "C" fn frame_bench_read(line: &[u8], kinds: u16) -> Flat
 pub extern "C" fn frame_bench_write(flat: Flat, out: &mut [u8]) -> usize
     ensures { (result ≡ written_length (framed flat) out.old) × (out.new ≡ written (framed flat) out.old) }
 {
-    let view = flat.view;
-    let ballot = flat.ballot;
-    let proven_ballot = flat.proven_ballot;
     let words = flat.words;
     let f = Frame {
-        heading: Heading {
-            kind: flat.kind,
-            sender: flat.sender,
-            view,
-            ballot,
-            proven_ballot,
-            mask: flat.mask,
-        },
+        kind: flat.kind,
+        sender: flat.sender,
+        view: View(flat.view),
+        ballot: Ballot(flat.ballot),
+        proven_ballot: Ballot(flat.proven_ballot),
+        mask: flat.mask,
         n: flat.n,
         m: flat.m,
         words,

@@ -6,7 +6,7 @@ use libc::{STDIN_FILENO, STDOUT_FILENO};
 // Every kind, and P2B alone, as sets of kinds.
 const ALL: u16 = 0xffff;
 
-const VOTES: u16 = 1 << frame::P2B;
+const VOTES: u16 = 1 << 7;
 
 fn put(text: &[u8]) {
     io::write_all(STDOUT_FILENO, text);

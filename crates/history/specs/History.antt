@@ -84,13 +84,9 @@ is_canonical h = equal (canonical h) h
 unfoldable pub valid_history : List ℕ → Bool
 valid_history h = all_valid h && (not (repeated h) && is_canonical h)
 
--- HISTORY, of a list that may be empty: "proposer and serial repeated; not canonical"
-abbrev pub disordered : List ℕ → Bool
-disordered h = repeated h || not (is_canonical h)
-
--- and of one that may not, of the kinds that carry a history: "n = 0"
+-- HISTORY, of the kinds that carry a history: "proposer and serial repeated; not canonical; n = 0"
 unfoldable pub improper : List ℕ → Bool
-improper h = disordered h || eqb (length h) 0
+improper h = repeated h || (not (is_canonical h) || eqb (length h) 0)
 
 -- whether c can be taken off the front of h: it stands there with no conflicting command before it
 unfoldable pub comes_off : ℕ → List ℕ → Bool

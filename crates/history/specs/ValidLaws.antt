@@ -5,7 +5,7 @@ use Rattle.std.proofs.lemmas.Bool.{not-true, not-false, eqb-false}
 use Rattle.basics.specs.Bools.{and_left, and_right, or_left, or_right}
 use Rattle.command.specs.Command.{same_request, valid_command, all_valid}
 use Rattle.command.specs.CommandLaws.{same_sym}
-use Rattle.history.specs.History.{present, repeated, canonical, equal, is_canonical, valid_history, disordered, improper, ordered}
+use Rattle.history.specs.History.{present, repeated, canonical, equal, is_canonical, valid_history, improper, ordered}
 
 -- the three parts of a valid history
 pub record ValidHistory (h : List ℕ) : Type 0 where
@@ -27,21 +27,21 @@ pub valid_nil : valid_history [] ≡ true
 unfolding valid_history all_valid repeated is_canonical canonical ordered equal
 valid_nil = refl
 
--- valid commands that are not disordered are a valid history
-pub not_disordered : (h : List ℕ) → all_valid h ≡ true → disordered h ≡ false → ValidHistory h
-not_disordered h a e =
-    record { commands = a; distinct = or_left (repeated h) _ e; in_order = not-false (is_canonical h) (or_right (repeated h) _ e) }
-
--- so is one that is not improper
+-- valid commands that are not improper are a valid history
 pub not_improper : (h : List ℕ) → all_valid h ≡ true → improper h ≡ false → ValidHistory h
 unfolding improper
-not_improper h a e = not_disordered h a (or_left (disordered h) _ e)
+not_improper h a e =
+    record {
+      commands = a;
+      distinct = or_left (repeated h) _ e;
+      in_order = not-false (is_canonical h) (or_left (not (is_canonical h)) _ (or_right (repeated h) _ e));
+    }
 
 -- and has a command
 pub proper_some : (h : List ℕ) → improper h ≡ false → 0 < length h
 unfolding improper
 proper_some h e =
-    let some_command = eqb-false (length h) 0 (or_right (disordered h) _ e) in
+    let some_command = eqb-false (length h) 0 (or_right (not (is_canonical h)) _ (or_right (repeated h) _ e)) in
     omega (arith, some_command)
 
 -- ---- appending

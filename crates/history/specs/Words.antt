@@ -25,6 +25,6 @@ valid_stored limit h = leb h.count limit && valid_history (commands h)
 abbrev pub union_capacity : ℕ
 union_capacity = capacity + capacity
 
--- extension within n commands, which is not document 01's for a longer h: it "ignores the limit", and here such an h extends nothing
+-- extension, asked of lists of at most n commands only: a longer one extends nothing
 abbrev pub extends_within : ℕ → List ℕ → List ℕ → Bool
 extends_within n h g = leb (length h) n && extends h g

@@ -1,4 +1,6 @@
 // Histories: the test for a repeated proposer and serial, canonical order, and extension.
+#![tactic(auto)]
+
 ghost use Rattle.std.specs.Prelude.{◌≡◌, true, ◌≤◌, ◌<◌, length, take, drop, get_or};
 ghost use Rattle.history.specs.History as spec;
 ghost use Rattle.history.specs.Code.Insertion as insertion;
@@ -126,22 +128,19 @@ pub fn lendable(limit: u8, words: &[u64], count: u8) -> bool
     valid(first(words, count as usize))
 }
 
-// Whether a list that a frame carries, and that may be empty, is refused with HISTORY: a proposer and serial twice, or not in canonical order.
-pub fn disordered(h: &[u64]) -> bool
-    ensures { result ≡ spec.disordered h.now }
+// Whether a list that a frame carries is refused with HISTORY: a proposer and serial twice, not in canonical order, or empty.
+pub fn improper(h: &[u64]) -> bool
+    ensures { result ≡ spec.improper h.now }
 {
     let doubled = repeated(h);
     if doubled {
         return true;
     }
-    !is_canonical(h)
-}
-
-// Whether one that may not is: disordered, or empty.
-pub fn improper(h: &[u64]) -> bool
-    ensures { result ≡ spec.improper h.now }
-{
-    disordered(h) | (h.len() == 0)
+    let ordered = is_canonical(h);
+    if !ordered {
+        return true;
+    }
+    h.len() == 0
 }
 
 // The place of the command at n among those before it, found by walking left until one conflicts.
@@ -287,9 +286,8 @@ fn extends_past(h: &[u64], g: &[u64], k: usize) -> bool
     extends_in(&mut work[..n], &h[k..], &g[k..])
 }
 
-// Whether h extends g, for an h of at most 64 commands, as many as a union of two histories has. Of a longer h the answer is no, whatever it extends:
-// document 01's extension has no limit, and this one does.
-pub fn extends_within(h: &[u64], g: &[u64]) -> bool
+// Whether h extends g, of an h that a union of two histories can be; a longer one extends nothing here.
+pub fn extends(h: &[u64], g: &[u64]) -> bool
     ensures { result ≡ words.extends_within words.union_capacity h.now g.now }
 {
     let fits = h.len() <= WORK;

@@ -7,9 +7,10 @@ use native.Mathlib.Omega.{arith}
 use native.Mathlib.Nat.{sub-zero}
 use lib.Dec.{eqb}
 use lib.ListN.{length, take, drop, length-take, length-drop, length-append, drop_of_length-le}
-use lib.Seq.{length-take-le}
+use lib.Seq.{take_all, length-take-le}
 use borrow.Rule.Slice.PartMut.{mid_of, put_mid}
 use Rattle.roster.specs.declared.Roster.{Roster}
+use Rattle.roster.specs.declared.View.{View}
 use Rattle.roster.specs.declared.Ballot.{Ballot}
 use Rattle.roster.specs.Roster.{quorum}
 use Rattle.roster.specs.Mask.{reaches, with_site}
@@ -30,10 +31,12 @@ use Rattle.refusal.specs.declared.Answer.TheVariants.{Accepted}
 use Rattle.refusal.specs.Refusal.{is_refused}
 use Rattle.refusal.specs.Rules.{answer}
 use Rattle.refusal.specs.AnswerLaws.{judged_refused, judged_accepted}
-use Rattle.frame.specs.declared.Head.{Head}
+use Rattle.frame.specs.declared.Frame.{Frame}
+use Rattle.frame.specs.declared.Heading.{Heading}
 use Rattle.frame.specs.declared.Reading.{Reading}
 use Rattle.frame.specs.Layout.{first, second}
 use Rattle.frame.specs.Format.{reading_of, reading_with, frame_with, malformed}
+use Rattle.site.specs.Message.{message}
 use Rattle.site.specs.Reply.{Reply, Handed, refuse, accept, sends, sends_if}
 use Rattle.leader.specs.declared.State.{State}
 use Rattle.leader.specs.declared.Marks.{Marks}
@@ -81,23 +84,31 @@ shortened b l d w size e f =
     let words : w ≡ padded capacity l = f ∙ ap (λ (n : ℕ). padded n d.words) size ∙ ap (λ (x : History). padded capacity x.words) e ∙ again in
     λ i. record { count = (e i).count; words = words i }
 
+-- ---- a P2A: m is the frame made, n the length of its line and l the buffer
+
+pub p2a_sent : (own : ℕ) (view : View) (ballot : Ballot) (h out : List ℕ) (m : Frame) (n : ℕ) (l : List ℕ) → length h ≤ capacity
+    → m ≡ message 5 own view ballot (record { 0 = 0 }) 0 (take capacity h) (take capacity [])
+    → Handed (sends_if (not (eqb (length h) 0)) m) n out l
+    → Handed (sends_if (not (eqb (length h) 0)) (p2a own view ballot h)) n out l
+p2a_sent own view ballot h out m n l p e z = rw (e, take_all capacity h p) at z
+
 -- ---- a report
 
 -- the state with the report: k is the marks after it, w and c the words and counts of the one table, x and d those of the other
-pub stored_report : (marks : Marks) (pending : List ℕ) (count : ℕ) (proven provenCounts held heldCounts : List ℕ) (f : Head) (words : List ℕ) (k : Marks) (g h w c x d : List ℕ)
+pub stored_report : (marks : Marks) (pending : List ℕ) (count : ℕ) (proven provenCounts held heldCounts : List ℕ) (f : Heading) (words : List ℕ) (k : Marks) (g h w c x d : List ℕ)
     → length proven ≡ 512
     → length provenCounts ≡ 16
     → length held ≡ 512
     → length heldCounts ≡ 16
-    → k ≡ record { view = marks.view; ballot = marks.ballot; classic = marks.classic; reported = with_site marks.reported f.heading.sender }
+    → k ≡ record { view = marks.view; ballot = marks.ballot; classic = marks.classic; reported = with_site marks.reported f.sender }
     → g ≡ first (frame_with f words)
-    → table_of w c ≡ stored_in proven provenCounts f.heading.sender g
+    → table_of w c ≡ stored_in proven provenCounts f.sender g
     → h ≡ second (frame_with f words)
-    → table_of x d ≡ stored_in held heldCounts f.heading.sender h
+    → table_of x d ≡ stored_in held heldCounts f.sender h
     → state_of k pending count w c x d ≡ reporting (state_of marks pending count proven provenCounts held heldCounts) (frame_with f words)
 stored_report marks pending count proven provenCounts held heldCounts f words k g h w c x d l1 l2 l3 l4 ek eg et eh eu =
-    let t = et ∙ stored_in_lem proven provenCounts f.heading.sender g (omega arith) (omega arith) in
-    let u = eu ∙ stored_in_lem held heldCounts f.heading.sender h (omega arith) (omega arith) in
+    let t = et ∙ stored_in_lem proven provenCounts f.sender g (omega arith) (omega arith) in
+    let u = eu ∙ stored_in_lem held heldCounts f.sender h (omega arith) (omega arith) in
     rw (ek, t, u, eg, eh)
 
 module _ (r : Roster) (own : ℕ) (s : State) (out : List ℕ) where
@@ -135,7 +146,7 @@ module _ (r : Roster) (own : ℕ) (s : State) (out : List ℕ) where
 
 -- ---- a line: f and w are what was read of it, x is the answer, and t tells whether it refuses
 
-module _ (r : Roster) (own : ℕ) (s : State) (line out : List ℕ) (f : Head) (w : List ℕ) (x : Answer) (t : Bool)
+module _ (r : Roster) (own : ℕ) (s : State) (line out : List ℕ) (f : Heading) (w : List ℕ) (x : Answer) (t : Bool)
     (p : reading_with f w ≡ reading_of limit line taken) (e : x ≡ answer (rules_on r own (length out) s (reading_with f w))) (g : t ≡ is_refused x) where
   answer_is : x ≡ answer (rules r own (length out) s line)
   unfolding malformed
@@ -144,15 +155,15 @@ module _ (r : Roster) (own : ℕ) (s : State) (line out : List ℕ) (f : Head) (
   pub steps_refused : t ≡ true → Done (step r own (length out) s line) out (record { answer = x; sent = 0; state = s }) out
   unfolding step
   steps_refused h =
-      judged_refused (refuse s) (accepted (kind_of (received line).heading.kind) r own s (received line)) (rules r own (length out) s line) x answer_is (sym g ∙ h)
+      judged_refused (refuse s) (accepted (kind_of (received line).kind) r own s (received line)) (rules r own (length out) s line) x answer_is (sym g ∙ h)
       (λ (a : Answer) (o : Reply State). Done o out (record { answer = a; sent = 0; state = s }) out) (λ (e : Refusal). (refl, refl))
 
-  pub steps_accepted : t ≡ false → (o : Outcome) (l : List ℕ) → Done (accepted (kind_of f.heading.kind) r own s (frame_with f w)) out o l
+  pub steps_accepted : t ≡ false → (o : Outcome) (l : List ℕ) → Done (accepted (kind_of f.kind) r own s (frame_with f w)) out o l
       → Done (step r own (length out) s line) out o l
   unfolding step
   steps_accepted h o l d =
-      rw (judged_accepted (refuse s) (accepted (kind_of (received line).heading.kind) r own s (received line)) (rules r own (length out) s line) x answer_is (sym g ∙ h))
-      (subst (λ (a : Reading). Done (accepted (kind_of a.frame.heading.kind) r own s a.frame) out o l) p d)
+      rw (judged_accepted (refuse s) (accepted (kind_of (received line).kind) r own s (received line)) (rules r own (length out) s line) x answer_is (sym g ∙ h))
+      (subst (λ (a : Reading). Done (accepted (kind_of a.frame.kind) r own s a.frame) out o l) p d)
 
 -- ---- opening a ballot: x is the answer, and b tells whether it refuses
 

@@ -18,12 +18,11 @@ use Rattle.proposal.specs.Proposal.{report, proposal, remaining}
 use Rattle.refusal.specs.declared.Refusal.TheVariants.{Config, Form, Sender, Stale, Proof}
 use Rattle.refusal.specs.Rules.{Rule, ◌gives◌, judged}
 use Rattle.content.specs.Content.{request_rules, report_rules, append_rules}
-use Rattle.frame.specs.declared.Heading.{Heading}
 use Rattle.frame.specs.declared.Frame.{Frame}
-use Rattle.frame.specs.Kinds as kinds
 use Rattle.frame.specs.Layout.{first, second}
-use Rattle.frame.specs.Format.{reading_of, malformed, message}
+use Rattle.frame.specs.Format.{reading_of, malformed}
 use Rattle.site.specs.Site.{seated, is_set}
+use Rattle.site.specs.Message.{message}
 use Rattle.site.specs.Reply.{silent, sends, Reply, refuse, accept, sends_if, length_sent, buffer}
 use Rattle.leader.specs.declared.State.{State}
 use Rattle.leader.specs.declared.Marks.{Marks}
@@ -38,11 +37,11 @@ pub data Kind : Type 0 where
 
 -- the kind of a number of `taken`
 abbrev pub kind_of : ℕ → Kind
-kind_of k = cond (eqb k kinds.P1B) P1B (cond (eqb k kinds.PROPOSE) PROPOSE LEADER)
+kind_of k = cond (eqb k 3) P1B (cond (eqb k 4) PROPOSE LEADER)
 
--- the kinds that are taken
+-- 3 P1B, 4 PROPOSE, 10 LEADER as a set of kinds: kind k is bit k
 abbrev pub taken : ℕ
-taken = kinds.set_of (kinds.P1B ∷ kinds.PROPOSE ∷ kinds.LEADER ∷ [])
+taken = 1048
 
 -- the frame that a line holds
 abbrev pub received : List ℕ → Frame
@@ -68,7 +67,7 @@ fresh = state_with (record { view = record { 0 = 0 }; ballot = record { 0 = 0 };
 -- CONFIG: a list of pending commands may be lent without a "count over 32, a wrong command, a repeated proposer and serial in one list"; its order
 -- is free
 unfoldable pub valid_pending : ℕ → History → Bool
-valid_pending most p = leb p.count most && (all_valid (commands p) && not (repeated (commands p)))
+valid_pending limit p = leb p.count limit && (all_valid (commands p) && not (repeated (commands p)))
 
 -- roster, own number and buffer; pending; and of the reports no "stored history not canonical, or a mask bit or entry at N or above"
 unfoldable pub config : Roster → ℕ → ℕ → State → Bool
@@ -81,24 +80,20 @@ config r own room s =
 abbrev pub form : List ℕ → Bool
 form line = malformed limit line taken
 
--- SENDER: sender ≥ N
-abbrev pub unknown : Roster → ℕ → Bool
-unknown r site = leb r.n site
-
 -- LEADER "needs view mod N its own number and a view above its own (else STALE)"
 unfoldable pub leads : Roster → ℕ → Marks → View → Bool
 leads r own k view = eqb (leader_of r view) own && later_view view k.view
 
 -- PROOF: "and N-f ones"
-abbrev pub leader_rules : Roster → ℕ → Marks → Heading → List Rule
-leader_rules r own k m = unknown r m.sender gives Sender ∷ not (leads r own k m.view) gives Stale ∷ unproven m.mask r.n (quorum r) gives Proof ∷ []
+abbrev pub leader_rules : Roster → ℕ → Marks → Frame → List Rule
+leader_rules r own k m = leb r.n m.sender gives Sender ∷ not (leads r own k m.view) gives Stale ∷ unproven m.mask r.n (quorum r) gives Proof ∷ []
 
 -- SENDER: "PROPOSE instead: sender 0"
-abbrev pub propose_heading : Heading → List Rule
+abbrev pub propose_heading : Frame → List Rule
 propose_heading m = eqb m.sender 0 gives Sender ∷ []
 
 -- PROPOSE with the commands h, with any ballot: "REUSED, NOTHING and FULL are read against pending (at most 32)"
-abbrev pub propose_rules : List ℕ → Heading → List ℕ → List Rule
+abbrev pub propose_rules : List ℕ → Frame → List ℕ → List Rule
 propose_rules pending m h = propose_heading m ++ (request_rules m.sender h ++ append_rules limit pending h)
 
 -- "P1B must be for the open classic ballot, the first from its site, and before N-f came, else STALE."
@@ -110,28 +105,28 @@ awaited r k ballot site =
 unfoldable pub unfounded : Roster → ℕ → Ballot → ℕ → Bool
 unfounded r n provenBallot mask = cond (eqb n 0) (not (zero_ballot provenBallot && eqb mask 0)) (unproven mask r.n (quorum r))
 
-abbrev pub report_heading : Roster → Marks → Heading → ℕ → List Rule
-report_heading r k m n =
-    unknown r m.sender gives Sender ∷
+abbrev pub report_heading : Roster → Marks → Frame → List Rule
+report_heading r k m =
+    leb r.n m.sender gives Sender ∷
     not (awaited r k m.ballot m.sender) gives Stale ∷
-    unfounded r n m.proven_ballot m.mask gives Proof ∷ []
+    unfounded r m.n m.proven_ballot m.mask gives Proof ∷ []
 
--- P1B with n proven commands, the proven history g and the held one h
-abbrev pub p1b_rules : Roster → Marks → Heading → ℕ → List ℕ → List ℕ → List Rule
-p1b_rules r k m n g h = report_heading r k m n ++ report_rules g h
+-- P1B with the proven history g and the held one h
+abbrev pub p1b_rules : Roster → Marks → Frame → List ℕ → List ℕ → List Rule
+p1b_rules r k m g h = report_heading r k m ++ report_rules g h
 
 -- the checks of a frame of a kind
 abbrev pub frame_rules : Kind → Roster → ℕ → Marks → List ℕ → Frame → List Rule
-frame_rules P1B r own k pending m = p1b_rules r k m.heading m.n (first m) (second m)
-frame_rules PROPOSE r own k pending m = propose_rules pending m.heading (first m)
-frame_rules LEADER r own k pending m = leader_rules r own k m.heading
+frame_rules P1B r own k pending m = p1b_rules r k m (first m) (second m)
+frame_rules PROPOSE r own k pending m = propose_rules pending m (first m)
+frame_rules LEADER r own k pending m = leader_rules r own k m
 
 -- all checks of a line
 abbrev pub rules : Roster → ℕ → ℕ → State → List ℕ → List Rule
 rules r own room s line =
     config r own room s gives Config ∷
     form line gives Form ∷
-    frame_rules (kind_of (received line).heading.kind) r own (marks_of s) (pending_of s) (received line)
+    frame_rules (kind_of (received line).kind) r own (marks_of s) (pending_of s) (received line)
 
 -- ---- an accepted frame
 
@@ -145,23 +140,19 @@ waiting s pending = state_with (marks_of s) (stored pending) s.proven s.held
 
 abbrev pub reporting : State → Frame → State
 reporting s m =
-    state_with (record { view = s.view; ballot = s.ballot; classic = s.classic; reported = with_site s.reported m.heading.sender }) s.pending
-    (stored_at s.proven m.heading.sender (first m)) (stored_at s.held m.heading.sender (second m))
+    state_with (record { view = s.view; ballot = s.ballot; classic = s.classic; reported = with_site s.reported m.sender }) s.pending
+    (stored_at s.proven m.sender (first m)) (stored_at s.held m.sender (second m))
 
 -- the history of site i's report in a table
 abbrev pub report_in : State → Table → ℕ → List ℕ
 report_in s t = report t.words t.counts s.reported
-
--- the heading of a frame of this kind from `own` for a view and a ballot
-abbrev pub heading_of : ℕ → ℕ → View → Ballot → Heading
-heading_of kind own view ballot = record { kind = kind; sender = own; view = view; ballot = ballot; proven_ballot = record { 0 = 0 }; mask = 0 }
 
 -- what the leader proposes of the reports and of what is pending, and its P2A
 unfoldable pub proposed : Roster → State → List ℕ
 proposed r s = proposal limit r.n (report_in s s.proven) (report_in s s.held) (pending_of s)
 
 abbrev pub p2a : ℕ → View → Ballot → List ℕ → Frame
-p2a own view ballot h = message (heading_of kinds.P2A own view ballot) h []
+p2a own view ballot h = message 5 own view ballot (record { 0 = 0 }) 0 h []
 
 -- "On report N-f": "If not empty, the canonical result goes out as P2A. Pending keeps what the result doesn't hold."
 abbrev pub proposing : ℕ → State → List ℕ → Reply State
@@ -174,11 +165,11 @@ conclude r own s = cond (reaches s.reported (quorum r)) (proposing own s (propos
 abbrev pub accepted : Kind → Roster → ℕ → State → Frame → Reply State
 accepted P1B r own s m = conclude r own (reporting s m)
 accepted PROPOSE r own s m = accept (waiting s (appended (pending_of s) (first m))) silent
-accepted LEADER r own s m = accept (in_view s m.heading.view) silent
+accepted LEADER r own s m = accept (in_view s m.view) silent
 
 -- what a call does; `room` is the length of the lent buffer
 unfoldable pub step : Roster → ℕ → ℕ → State → List ℕ → Reply State
-step r own room s line = judged (refuse s) (accepted (kind_of (received line).heading.kind) r own s (received line)) (rules r own room s line)
+step r own room s line = judged (refuse s) (accepted (kind_of (received line).kind) r own s (received line)) (rules r own room s line)
 
 -- ---- opening a ballot
 
@@ -195,7 +186,7 @@ in_ballot view ballot fast pending =
     state_with (record { view = view; ballot = ballot; classic = cond (is_set fast) 0 1; reported = 0 }) pending empty_table empty_table
 
 abbrev pub invitation : ℕ → View → Ballot → ℕ → Frame
-invitation own view ballot fast = message (heading_of (cond (is_set fast) kinds.FAST kinds.P1A) own view ballot) [] []
+invitation own view ballot fast = message (cond (is_set fast) 2 1) own view ballot (record { 0 = 0 }) 0 [] []
 
 -- what the call does; `fast` is a flag: 0 opens a classic ballot
 unfoldable pub opening : Roster → ℕ → ℕ → State → Ballot → ℕ → Reply State

@@ -12,7 +12,7 @@ ghost use Rattle.leader.specs.Leader as spec;
 ghost use Rattle.leader.specs.Parts as parts;
 ghost use Rattle.leader.specs.Code.Calls as calls;
 
-use frame::Head;
+use frame::Heading;
 use history::History;
 use refusal::{Answer, Refusal, given};
 use roster::{Ballot, Roster, View};
@@ -61,8 +61,13 @@ pub struct Settled {
     pub marks: Marks,
 }
 
-// The kinds of frames that are taken.
-const TAKEN: u16 = 1 << frame::P1B | 1 << frame::PROPOSE | 1 << frame::LEADER;
+// The kinds of frames taken, but for LEADER, which is what is left of them.
+const P1B: u8 = 3;
+
+const PROPOSE: u8 = 4;
+
+// P1B, PROPOSE and LEADER, which are bits 3, 4 and 10.
+const TAKEN: u16 = 1048;
 
 // Whether pending commands may be lent: no more than the limit, valid, no proposer and serial twice. Their order is free.
 fn pending_valid(limit: u8, words: &[u64; words::CAPACITY], count: u8) -> bool
@@ -104,23 +109,23 @@ fn judge<'a>(
     own: u8,
     marks: Marks,
     pending: &'a [u64],
-    head: Head,
+    head: Heading,
     words: &'a [u64; frame::CAPACITY],
 ) -> Answer
-    ensures { result ≡ answer (spec.frame_rules (spec.kind_of head.heading.kind) r own marks pending.now (frame_with head words.now)) }
+    ensures { result ≡ answer (spec.frame_rules (spec.kind_of head.kind) r own marks pending.now (frame_with head words.now)) }
 {
     let n = head.n as usize;
     let h = history::first(words, n);
-    let report = head.heading.kind == frame::P1B;
+    let report = head.kind == P1B;
     if report {
         let held = report::after(words, n, head.m as usize);
-        return report::check(r, marks, head.heading, head.n, h, held);
+        return report::check(r, marks, head, h, held);
     }
-    let request = head.heading.kind == frame::PROPOSE;
+    let request = head.kind == PROPOSE;
     if request {
-        return request::check(pending, head.heading, h);
+        return request::check(pending, head, h);
     }
-    view::check(r, own, marks, head.heading)
+    view::check(r, own, marks, head)
 }
 
 // The answer to a line of which this was read: CONFIG and FORM, and then by the frame.
@@ -135,7 +140,7 @@ fn check<'a>(
     proven_counts: &'a [u8; 16],
     held: &'a [u64; 512],
     held_counts: &'a [u8; 16],
-    head: Head,
+    head: Heading,
     words: &'a [u64; frame::CAPACITY],
 ) -> Answer
     ensures { result ≡ answer (calls.rules_on r own room (parts.state_of marks pending.now count proven.now proven_counts.now held.now held_counts.now) (reading_with head words.now)) }
@@ -182,7 +187,7 @@ fn perform(
     r: Roster,
     own: u8,
     marks: Marks,
-    head: Head,
+    head: Heading,
     words: &[u64; frame::CAPACITY],
     pending: &mut [u64; words::CAPACITY],
     count: &mut u8,
@@ -192,9 +197,9 @@ fn perform(
     held_counts: &mut [u8; 16],
     out: &mut [u8],
 ) -> Settled
-    ensures { calls.Done (spec.accepted (spec.kind_of head.heading.kind) r own (parts.state_of marks pending.old count.old proven.old proven_counts.old held.old held_counts.old) (frame_with head words.now)) out.old (parts.outcome_of result pending.new count.new proven.new proven_counts.new held.new held_counts.new) out.new }
+    ensures { calls.Done (spec.accepted (spec.kind_of head.kind) r own (parts.state_of marks pending.old count.old proven.old proven_counts.old held.old held_counts.old) (frame_with head words.now)) out.old (parts.outcome_of result pending.new count.new proven.new proven_counts.new held.new held_counts.new) out.new }
 {
-    let report = head.heading.kind == frame::P1B;
+    let report = head.kind == P1B;
     if report {
         return report::collect(
             r,
@@ -211,12 +216,12 @@ fn perform(
             out,
         );
     }
-    let request = head.heading.kind == frame::PROPOSE;
+    let request = head.kind == PROPOSE;
     if request {
         request::lengthen(pending, count, history::first(words, head.n as usize));
         return silent(marks, Answer::Accepted);
     }
-    silent(view::in_view(marks, head.heading.view), Answer::Accepted)
+    silent(view::in_view(marks, head.view), Answer::Accepted)
 }
 
 // One step in place, on the parts of a leader's state: the answer to a line, how much of the buffer is to be sent, and the marks after it; the parts are

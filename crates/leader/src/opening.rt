@@ -6,8 +6,12 @@ ghost use Rattle.site.specs.Site.{is_set};
 ghost use Rattle.leader.specs.Leader as spec;
 
 use super::Marks;
-use frame::Heading;
 use roster::{Ballot, Roster, View};
+
+// The kinds of the frames that are sent.
+const P1A: u8 = 1;
+
+const FAST: u8 = 2;
 
 // Whether this site may open a ballot: one above its last, in a view that it leads.
 pub(crate) fn may_open(r: Roster, own: u8, marks: Marks, ballot: Ballot) -> bool
@@ -28,15 +32,19 @@ pub(crate) fn invite(own: u8, view: View, ballot: Ballot, fast: u8, out: &mut [u
     ensures { Handed (sends (spec.invitation own view ballot fast)) result out.old out.new }
 {
     let none: [u64; 0] = [];
-    let heading = Heading {
-        kind: pick(!(fast == 0), frame::FAST, frame::P1A),
-        sender: own,
+    let kind = pick(!(fast == 0), FAST, P1A);
+    site::send(
+        true,
+        kind,
+        own,
         view,
         ballot,
-        proven_ballot: Ballot(0),
-        mask: 0,
-    };
-    site::send(true, heading, &none, &none, out)
+        Ballot(0),
+        0,
+        &none,
+        &none,
+        out,
+    )
 }
 
 // The marks in a ballot that was just opened.

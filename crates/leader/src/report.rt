@@ -1,5 +1,5 @@
 // P1B: the reports of the sites, and on report N-f the proposal.
-ghost use Rattle.std.specs.Prelude.{not, ◌≡◌, eqb, length, take, drop};
+ghost use Rattle.std.specs.Prelude.{not, [], ◌≡◌, ◌≤◌, eqb, length, take, drop};
 ghost use Rattle.words.specs.Sizes.{capacity};
 ghost use Rattle.history.specs.Words.{history_of, stored};
 ghost use Rattle.proposal.specs.Proposal.{remaining};
@@ -12,9 +12,12 @@ ghost use Rattle.leader.specs.Parts as parts;
 ghost use Rattle.leader.specs.Code.Calls as calls;
 
 use super::{Marks, Settled, silent};
-use frame::{Head, Heading};
+use frame::Heading;
 use refusal::{Answer, Refusal, given};
 use roster::{Ballot, Roster, View};
+
+// The kind of the frame that is sent.
+const P2A: u8 = 5;
 
 // Whether a report is for the open classic ballot, the first from its site, and before N-f came.
 fn awaited(r: Roster, marks: Marks, ballot: Ballot, site: u8) -> bool
@@ -37,13 +40,13 @@ fn unfounded(r: Roster, n: u8, proven_ballot: Ballot, mask: u16) -> bool
     roster::unproven(mask, r.n, r.quorum())
 }
 
-// The answer to the heading of a P1B with n proven commands.
-fn heading(r: Roster, marks: Marks, head: Heading, n: u8) -> Answer
-    ensures { result ≡ answer (spec.report_heading r marks head n) }
+// The answer to the heading of a P1B.
+fn heading(r: Roster, marks: Marks, head: Heading) -> Answer
+    ensures { result ≡ answer (spec.report_heading r marks (frame_with head [])) }
 {
     let unknown = r.n <= head.sender;
     let stale = !awaited(r, marks, head.ballot, head.sender);
-    let weak = unfounded(r, n, head.proven_ballot, head.mask);
+    let weak = unfounded(r, head.n, head.proven_ballot, head.mask);
     given(
         unknown,
         Refusal::Sender,
@@ -55,18 +58,17 @@ fn heading(r: Roster, marks: Marks, head: Heading, n: u8) -> Answer
     )
 }
 
-// The answer to a P1B with n proven commands, a proven and a held history: the heading, and then the two.
+// The answer to a P1B with a proven and a held history: the heading, and then the two.
 pub(crate) fn check<'a>(
     r: Roster,
     marks: Marks,
     head: Heading,
-    n: u8,
     proven: &'a [u64],
     held: &'a [u64],
 ) -> Answer
-    ensures { result ≡ answer (spec.p1b_rules r marks head n proven.now held.now) }
+    ensures { result ≡ answer (spec.p1b_rules r marks (frame_with head []) proven.now held.now) }
 {
-    let answer = heading(r, marks, head, n);
+    let answer = heading(r, marks, head);
     let stops = answer.refuses();
     if stops {
         return answer;
@@ -101,18 +103,22 @@ fn reporting(marks: Marks, site: u8) -> Marks
 
 // Writes the P2A of a proposal, if it is not empty, and answers the length of its line.
 fn send_p2a(own: u8, view: View, ballot: Ballot, h: &[u64], out: &mut [u8]) -> usize
+    requires { length h.now ≤ capacity }
     ensures { Handed (sends_if (not (eqb (length h.now) 0)) (spec.p2a own view ballot h.now)) result out.old out.new }
 {
     let none: [u64; 0] = [];
-    let heading = Heading {
-        kind: frame::P2A,
-        sender: own,
+    site::send(
+        !(h.len() == 0),
+        P2A,
+        own,
         view,
         ballot,
-        proven_ballot: Ballot(0),
-        mask: 0,
-    };
-    site::send(!(h.len() == 0), heading, h, &none, out)
+        Ballot(0),
+        0,
+        h,
+        &none,
+        out,
+    )
 }
 
 // Keeps of the pending commands those that h does not hold, and leaves zeros after them.
@@ -176,7 +182,7 @@ pub(crate) fn collect(
     r: Roster,
     own: u8,
     marks: Marks,
-    head: Head,
+    head: Heading,
     words: &[u64; frame::CAPACITY],
     pending: &mut [u64; words::CAPACITY],
     count: &mut u8,
@@ -190,10 +196,10 @@ pub(crate) fn collect(
 {
     let n = head.n as usize;
     let k = head.m as usize;
-    let site = head.heading.sender as usize;
+    let site = head.sender as usize;
     table::store(proven, proven_counts, site, history::first(words, n));
     table::store(held, held_counts, site, after(words, n, k));
-    let now = reporting(marks, head.heading.sender);
+    let now = reporting(marks, head.sender);
     conclude(
         r,
         own,

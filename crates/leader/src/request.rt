@@ -1,9 +1,10 @@
 // PROPOSE: commands that wait to be proposed.
-ghost use Rattle.std.specs.Prelude.{◌≡◌, length, take};
+ghost use Rattle.std.specs.Prelude.{[], ◌≡◌, length, take};
 ghost use Rattle.words.specs.Sizes.{capacity};
 ghost use Rattle.history.specs.Words.{history_of, stored};
 ghost use Rattle.merge.specs.Merge.{appended};
 ghost use Rattle.refusal.specs.Rules.{answer};
+ghost use Rattle.frame.specs.Format.{frame_with};
 ghost use Rattle.leader.specs.Leader as spec;
 
 use frame::Heading;
@@ -11,7 +12,7 @@ use refusal::{Answer, Refusal, given};
 
 // The answer to the heading of a PROPOSE.
 fn heading(head: Heading) -> Answer
-    ensures { result ≡ answer (spec.propose_heading head) }
+    ensures { result ≡ answer (spec.propose_heading (frame_with head [])) }
 {
     let nobody = head.sender == 0;
     given(nobody, Refusal::Sender, Answer::Accepted)
@@ -19,7 +20,7 @@ fn heading(head: Heading) -> Answer
 
 // The answer to a PROPOSE: the heading, then the commands, then what is pending.
 pub(crate) fn check<'a>(pending: &'a [u64], head: Heading, h: &'a [u64]) -> Answer
-    ensures { result ≡ answer (spec.propose_rules pending.now head h.now) }
+    ensures { result ≡ answer (spec.propose_rules pending.now (frame_with head []) h.now) }
 {
     let answer = heading(head);
     let stops = answer.refuses();

@@ -1,6 +1,7 @@
 // LEADER: the site takes a view that it is to lead.
-ghost use Rattle.std.specs.Prelude.{◌≡◌};
+ghost use Rattle.std.specs.Prelude.{[], ◌≡◌};
 ghost use Rattle.refusal.specs.Rules.{answer};
+ghost use Rattle.frame.specs.Format.{frame_with};
 ghost use Rattle.leader.specs.Leader as spec;
 
 use super::Marks;
@@ -17,7 +18,7 @@ fn leads(r: Roster, own: u8, marks: Marks, view: View) -> bool
 
 // The answer to a LEADER.
 pub(crate) fn check(r: Roster, own: u8, marks: Marks, head: Heading) -> Answer
-    ensures { result ≡ answer (spec.leader_rules r own marks head) }
+    ensures { result ≡ answer (spec.leader_rules r own marks (frame_with head [])) }
 {
     let unknown = r.n <= head.sender;
     let stale = !leads(r, own, marks, head.view);

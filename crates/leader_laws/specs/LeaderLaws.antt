@@ -14,8 +14,8 @@ use Rattle.basics.specs.Bools.{and_left, and_right, or_left, or_right, or_either
 use Rattle.command.specs.Command.{all_valid, wrong, all_by}
 use Rattle.command.specs.CommandLaws.{right_commands}
 use Rattle.history.specs.declared.History.{History}
-use Rattle.history.specs.History.{Extends, repeated, disordered, valid_history}
-use Rattle.history.specs.ValidLaws.{valid_nil, valid_parts, parts_valid, not_disordered}
+use Rattle.history.specs.History.{Extends, repeated, is_canonical, valid_history}
+use Rattle.history.specs.ValidLaws.{valid_nil, valid_parts, parts_valid}
 use Rattle.words.specs.Sizes.{limit, capacity}
 use Rattle.history.specs.Words.{commands, stored}
 use Rattle.history.specs.WordsLaws.{commands_stored}
@@ -47,8 +47,8 @@ use Rattle.refusal.specs.AnswerLaws.{accepted_not_refused}
 use Rattle.refusal.specs.Rules.{Rule, ◌gives◌, judged}
 use Rattle.refusal.specs.Order.{in_order, follows}
 use Rattle.refusal.specs.JudgedLaws.{GivenFirst, Judgement, refused, accepts, judgement, test_of, no_test}
+use Rattle.content.specs.Content.{disordered}
 use Rattle.frame.specs.declared.Frame.{Frame}
-use Rattle.frame.specs.Kinds as kinds
 use Rattle.frame.specs.Layout.{first, second}
 use Rattle.frame.specs.FormatLaws.{read_n, read_m}
 use Rattle.site.specs.Site.{seated, is_set}
@@ -70,7 +70,6 @@ use Rattle.leader.specs.Leader.{
   valid_pending,
   config,
   form,
-  unknown,
   leads,
   awaited,
   unfounded,
@@ -98,10 +97,10 @@ use Rattle.leader.specs.Leader.{
 pub record Reports (r : Roster) (own room : ℕ) (s : State) (line : List ℕ) : Type 0 where
   pub configured : config r own room s ≡ false
   pub framed : form line ≡ false
-  pub kind : kind_of (received line).heading.kind ≡ P1B
-  pub from_site : unknown r (received line).heading.sender ≡ false
-  pub timely : not (awaited r (marks_of s) (received line).heading.ballot (received line).heading.sender) ≡ false
-  pub founded : unfounded r (received line).n (received line).heading.proven_ballot (received line).heading.mask ≡ false
+  pub kind : kind_of (received line).kind ≡ P1B
+  pub from_site : leb r.n (received line).sender ≡ false
+  pub timely : not (awaited r (marks_of s) (received line).ballot (received line).sender) ≡ false
+  pub founded : unfounded r (received line).n (received line).proven_ballot (received line).mask ≡ false
   pub right : (wrong (first (received line)) || wrong (second (received line))) ≡ false
   pub proper : (disordered (first (received line)) || disordered (second (received line))) ≡ false
   pub outcome : step r own room s line ≡ conclude r own (reporting s (received line))
@@ -110,9 +109,9 @@ pub record Reports (r : Roster) (own room : ℕ) (s : State) (line : List ℕ) :
 pub record Requests (r : Roster) (own room : ℕ) (s : State) (line : List ℕ) : Type 0 where
   pub configured : config r own room s ≡ false
   pub framed : form line ≡ false
-  pub kind : kind_of (received line).heading.kind ≡ PROPOSE
-  pub from_proposer : eqb (received line).heading.sender 0 ≡ false
-  pub right : (wrong (first (received line)) || not (all_by (received line).heading.sender (first (received line)))) ≡ false
+  pub kind : kind_of (received line).kind ≡ PROPOSE
+  pub from_proposer : eqb (received line).sender 0 ≡ false
+  pub right : (wrong (first (received line)) || not (all_by (received line).sender (first (received line)))) ≡ false
   pub proper : (repeated (first (received line)) || eqb (length (first (received line))) 0) ≡ false
   pub unused : reuses (pending_of s) (first (received line)) ≡ false
   pub something : nothing_new (pending_of s) (first (received line)) ≡ false
@@ -123,11 +122,11 @@ pub record Requests (r : Roster) (own room : ℕ) (s : State) (line : List ℕ) 
 pub record Elects (r : Roster) (own room : ℕ) (s : State) (line : List ℕ) : Type 0 where
   pub configured : config r own room s ≡ false
   pub framed : form line ≡ false
-  pub kind : kind_of (received line).heading.kind ≡ LEADER
-  pub from_site : unknown r (received line).heading.sender ≡ false
-  pub timely : not (leads r own (marks_of s) (received line).heading.view) ≡ false
-  pub proven : unproven (received line).heading.mask r.n (quorum r) ≡ false
-  pub outcome : step r own room s line ≡ accept (in_view s (received line).heading.view) silent
+  pub kind : kind_of (received line).kind ≡ LEADER
+  pub from_site : leb r.n (received line).sender ≡ false
+  pub timely : not (leads r own (marks_of s) (received line).view) ≡ false
+  pub proven : unproven (received line).mask r.n (quorum r) ≡ false
+  pub outcome : step r own room s line ≡ accept (in_view s (received line).view) silent
 
 pub data Stepped (r : Roster) (own room : ℕ) (s : State) (line : List ℕ) : Type 0 where
   refuses : (e : Refusal) → GivenFirst e (rules r own room s line) → step r own room s line ≡ refuse s e → Stepped r own room s line
@@ -142,7 +141,7 @@ rules_for k r own room s line =
 
 pub stepped : (r : Roster) (own room : ℕ) (s : State) (line : List ℕ) → Stepped r own room s line
 unfolding step test_of
-stepped r own room s line = go (kind_of (received line).heading.kind) refl refl
+stepped r own room s line = go (kind_of (received line).kind) refl refl
   where
     Given : Kind → Type 0
     Given k = step r own room s line ≡ judged (refuse s) (accepted k r own s (received line)) (rules_for k r own room s line)
@@ -153,11 +152,11 @@ stepped r own room s line = go (kind_of (received line).heading.kind) refl refl
     judge : (k : Kind) → Judged k
     judge k = judgement (refuse s) (accepted k r own s (received line)) (rules_for k r own room s line)
 
-    refusing : (k : Kind) → kind_of (received line).heading.kind ≡ k → (e : Refusal) → GivenFirst e (rules_for k r own room s line)
+    refusing : (k : Kind) → kind_of (received line).kind ≡ k → (e : Refusal) → GivenFirst e (rules_for k r own room s line)
         → step r own room s line ≡ refuse s e → Stepped r own room s line
     refusing k p e g o = refuses e (subst (λ (x : Kind). GivenFirst e (rules_for x r own room s line)) (sym p) g) o
 
-    report : kind_of (received line).heading.kind ≡ P1B → Given P1B → Judged P1B → Stepped r own room s line
+    report : kind_of (received line).kind ≡ P1B → Given P1B → Judged P1B → Stepped r own room s line
     report p q (refused e g o) = refusing P1B p e g (q ∙ o)
     report p q (accepts n o) =
         reports
@@ -173,7 +172,7 @@ stepped r own room s line = go (kind_of (received line).heading.kind) refl refl
           outcome = q ∙ o;
         })
 
-    request : kind_of (received line).heading.kind ≡ PROPOSE → Given PROPOSE → Judged PROPOSE → Stepped r own room s line
+    request : kind_of (received line).kind ≡ PROPOSE → Given PROPOSE → Judged PROPOSE → Stepped r own room s line
     request p q (refused e g o) = refusing PROPOSE p e g (q ∙ o)
     request p q (accepts n o) =
         requests
@@ -190,7 +189,7 @@ stepped r own room s line = go (kind_of (received line).heading.kind) refl refl
           outcome = q ∙ o;
         })
 
-    elect : kind_of (received line).heading.kind ≡ LEADER → Given LEADER → Judged LEADER → Stepped r own room s line
+    elect : kind_of (received line).kind ≡ LEADER → Given LEADER → Judged LEADER → Stepped r own room s line
     elect p q (refused e g o) = refusing LEADER p e g (q ∙ o)
     elect p q (accepts n o) =
         elects
@@ -204,7 +203,7 @@ stepped r own room s line = go (kind_of (received line).heading.kind) refl refl
           outcome = q ∙ o;
         })
 
-    go : (k : Kind) → kind_of (received line).heading.kind ≡ k → Given (kind_of (received line).heading.kind) → Stepped r own room s line
+    go : (k : Kind) → kind_of (received line).kind ≡ k → Given (kind_of (received line).kind) → Stepped r own room s line
     go P1B p q = report p (subst Given p q) (judge P1B)
     go PROPOSE p q = request p (subst Given p q) (judge PROPOSE)
     go LEADER p q = elect p (subst Given p q) (judge LEADER)
@@ -212,7 +211,7 @@ stepped r own room s line = go (kind_of (received line).heading.kind) refl refl
 -- "Checks run in this order": the rules follow the table of refusals
 pub rules_follow : (r : Roster) (own room : ℕ) (s : State) (line : List ℕ) → follows in_order (rules r own room s line) ≡ true
 unfolding follows
-rules_follow r own room s line = go (kind_of (received line).heading.kind)
+rules_follow r own room s line = go (kind_of (received line).kind)
   where
     go : (k : Kind) → follows in_order (rules_for k r own room s line) ≡ true
     go P1B = refl
@@ -287,7 +286,7 @@ module _ {r : Roster} {own room : ℕ} {s : State} {line : List ℕ} (P : Reply 
     (on-end : Reports r own room s line → proposed r (reporting s (received line)) ≡ []
     → P (accept (concluded r (reporting s (received line))) silent))
     (on-append : Requests r own room s line → P (accept (waiting s (appended (pending_of s) (first (received line)))) silent))
-    (on-elect : Elects r own room s line → P (accept (in_view s (received line).heading.view) silent)) where
+    (on-elect : Elects r own room s line → P (accept (in_view s (received line).view) silent)) where
   on_report : Reports r own room s line → {o : Reply State} → Effect r own (reporting s (received line)) o → P o
   on_report a (stores p) = on_store a
   on_report a (proposes p q) = on-p2a a p q
@@ -385,7 +384,10 @@ second_short line = rw length-take (omega (arith, read_m limit line taken))
 
 -- right commands in order are a valid history
 in_order : (h : List ℕ) → wrong h ≡ false → disordered h ≡ false → valid_history h ≡ true
-in_order h p q = parts_valid (not_disordered h (right_commands h p) q)
+unfolding disordered
+in_order h p q =
+    parts_valid
+    (record { commands = right_commands h p; distinct = or_left (repeated h) _ q; in_order = not-false (is_canonical h) (or_right (repeated h) _ q) })
 
 module _ {r : Roster} {own room : ℕ} {s : State} {line : List ℕ} (a : Reports r own room s line) where
   -- the histories of an accepted P1B are valid
@@ -403,13 +405,13 @@ module _ {r : Roster} {own room : ℕ} {s : State} {line : List ℕ} (a : Report
   pub report_lendable : Lendable r.n (reporting s (received line))
   report_lendable =
       let m = received line in
-      let site = leb-false r.n m.heading.sender a.from_site in
+      let site = leb-false r.n m.sender a.from_site in
       let c = (configured_is r own room s a.configured).lent in
       record {
         pending_valid_lem = c.pending_valid_lem;
-        inside = with_inside r.n s.reported m.heading.sender site c.inside;
-        proven_valid = valid_stored_lem limit r.n s.proven m.heading.sender (first m) (first_short line) c.proven_valid site first_valid;
-        held_valid = valid_stored_lem limit r.n s.held m.heading.sender (second m) (second_short line) c.held_valid site second_valid;
+        inside = with_inside r.n s.reported m.sender site c.inside;
+        proven_valid = valid_stored_lem limit r.n s.proven m.sender (first m) (first_short line) c.proven_valid site first_valid;
+        held_valid = valid_stored_lem limit r.n s.held m.sender (second m) (second_short line) c.held_valid site second_valid;
       }
 
 -- the commands of an accepted PROPOSE leave no more pending than the limit
@@ -422,32 +424,32 @@ request_fits a = ltb-false limit _ a.fits
 
 module _ (s : State) (m : Frame) where
   -- once a P1B is stored, its site's report in a table is the history that was stored there
-  pub report_new : (t : Table) (h : List ℕ) → Sized t → m.heading.sender < sites → length h ≤ limit
-      → report_in (reporting s m) (stored_at t m.heading.sender h) m.heading.sender ≡ h
+  pub report_new : (t : Table) (h : List ℕ) → Sized t → m.sender < sites → length h ≤ limit
+      → report_in (reporting s m) (stored_at t m.sender h) m.sender ≡ h
   report_new t h z p l =
-      let u = stored_at t m.heading.sender h in
-      report_marked u.words u.counts (reporting s m).reported m.heading.sender (with_bit_same s.reported m.heading.sender p)
-      ∙ row_stored z m.heading.sender h p l
+      let u = stored_at t m.sender h in
+      report_marked u.words u.counts (reporting s m).reported m.sender (with_bit_same s.reported m.sender p)
+      ∙ row_stored z m.sender h p l
 
   -- and each other site's is as before
-  pub report_other : (t : Table) (h : List ℕ) (i : ℕ) → i ≢ m.heading.sender → report_in (reporting s m) (stored_at t m.heading.sender h) i ≡ report_in s t i
+  pub report_other : (t : Table) (h : List ℕ) (i : ℕ) → i ≢ m.sender → report_in (reporting s m) (stored_at t m.sender h) i ≡ report_in s t i
   unfolding report
   report_other t h i n =
-      rw (with_bit_other s.reported m.heading.sender i (λ e. n (sym e)), row_stored_other t m.heading.sender h i n)
+      rw (with_bit_other s.reported m.sender i (λ e. n (sym e)), row_stored_other t m.sender h i n)
 
 -- so the two histories of an accepted P1B are its site's report
 module _ {r : Roster} {own room : ℕ} {s : State} {line : List ℕ} (a : Reports r own room s line) where
-  sender_below : (received line).heading.sender < sites
+  sender_below : (received line).sender < sites
   sender_below =
       let seat = seated_is r own room (configured_is r own room s a.configured).seat in
-      omega (arith, leb-false r.n (received line).heading.sender a.from_site, (valid_figures r seat.roster).max_sites)
+      omega (arith, leb-false r.n (received line).sender a.from_site, (valid_figures r seat.roster).max_sites)
 
   pub report_proven : Sized s.proven
-      → report_in (reporting s (received line)) (reporting s (received line)).proven (received line).heading.sender ≡ first (received line)
+      → report_in (reporting s (received line)) (reporting s (received line)).proven (received line).sender ≡ first (received line)
   report_proven z = report_new s (received line) s.proven (first (received line)) z sender_below (first_short line)
 
   pub report_held : Sized s.held
-      → report_in (reporting s (received line)) (reporting s (received line)).held (received line).heading.sender ≡ second (received line)
+      → report_in (reporting s (received line)) (reporting s (received line)).held (received line).sender ≡ second (received line)
   report_held z = report_new s (received line) s.held (second (received line)) z sender_below (second_short line)
 
 -- ---- the proposal
@@ -547,8 +549,8 @@ view_rises r own room s line =
     replies (λ o. s.view.0 ≤ o.state.view.0) (λ _. same) (λ a. same) (λ a p q. same) (λ a p. same) (λ a. same)
     (λ a.
     le_of_lt
-    (ltb-true s.view.0 m.heading.view.0
-    (and_right (eqb (leader_of r m.heading.view) own) _ (not-false (leads r own (marks_of s) m.heading.view) a.timely))))
+    (ltb-true s.view.0 m.view.0
+    (and_right (eqb (leader_of r m.view) own) _ (not-false (leads r own (marks_of s) m.view) a.timely))))
     (stepped r own room s line)
 
 -- a step keeps the ballot
@@ -561,7 +563,7 @@ ballot_stays r own room s line =
 pub reported_grows : (r : Roster) (own room : ℕ) (s : State) (line : List ℕ) (i : ℕ) → bit s.reported i ≡ true
     → bit (step r own room s line).state.reported i ≡ true
 reported_grows r own room s line i e =
-    let more = with_keeps s.reported (received line).heading.sender i e in
+    let more = with_keeps s.reported (received line).sender i e in
     replies (λ o. bit o.state.reported i ≡ true) (λ _. e) (λ a. more) (λ a p q. more) (λ a p. more) (λ a. e) (λ a. e) (stepped r own room s line)
 
 module _ (r : Roster) (own room : ℕ) (s : State) (ballot : Ballot) (fast : ℕ) where
@@ -590,10 +592,10 @@ module _ (r : Roster) (own room : ℕ) (s : State) (ballot : Ballot) (fast : ℕ
 
 -- a P2A from `own` with the proposal of state s, which has reports of a quorum and something to propose
 pub record IsP2A (r : Roster) (own : ℕ) (s : State) (m : Frame) : Type 0 where
-  pub kind : m.heading.kind ≡ kinds.P2A
-  pub sender : m.heading.sender ≡ own
-  pub view : m.heading.view ≡ s.view
-  pub ballot : m.heading.ballot ≡ s.ballot
+  pub kind : m.kind ≡ 5
+  pub sender : m.sender ≡ own
+  pub view : m.view ≡ s.view
+  pub ballot : m.ballot ≡ s.ballot
   pub history : first m ≡ proposed r s
   pub complete : reaches s.reported (quorum r) ≡ true
   pub some : 0 < length (proposed r s)
@@ -626,22 +628,22 @@ sends_history r own room s line {m} h =
 
 -- a P1A or FAST from `own` of this ballot
 pub record Invitation (own : ℕ) (s : State) (ballot : Ballot) (m : Frame) : Type 0 where
-  pub kind : (m.heading.kind ≡ kinds.P1A) ⊎ (m.heading.kind ≡ kinds.FAST)
-  pub sender : m.heading.sender ≡ own
-  pub view : m.heading.view ≡ s.view
-  pub ballot_is : m.heading.ballot ≡ ballot
+  pub kind : (m.kind ≡ 1) ⊎ (m.kind ≡ 2)
+  pub sender : m.sender ≡ own
+  pub view : m.view ≡ s.view
+  pub ballot_is : m.ballot ≡ ballot
 
 -- each frame that an opening sends is one
 pub opening_sends : (r : Roster) (own room : ℕ) (s : State) (ballot : Ballot) (fast : ℕ) {m : Frame}
     → (opening r own room s ballot fast).sending ≡ sends m → Invitation own s ballot m
 opening_sends r own room s ballot fast {m} h =
     opening_replies (λ o. o.sending ≡ sends m → Invitation own s ballot m) (λ _ g. absurd (silent_sends g))
-    (λ a g. subst (Invitation own s ballot) (sends_same g) (record { kind = either (is_set fast); sender = refl; view = refl; ballot_is = refl }))
+    (λ a g. subst (Invitation own s ballot) (sends_same g) (record { kind = kinds (is_set fast); sender = refl; view = refl; ballot_is = refl }))
     (opened r own room s ballot fast) h
   where
-    either : (b : Bool) → (cond b kinds.FAST kinds.P1A ≡ kinds.P1A) ⊎ (cond b kinds.FAST kinds.P1A ≡ kinds.FAST)
-    either true = inr refl
-    either false = inl refl
+    kinds : (b : Bool) → (◌≡◌ {A = ℕ} (cond b 2 1) 1) ⊎ (◌≡◌ {A = ℕ} (cond b 2 1) 2)
+    kinds true = inr refl
+    kinds false = inl refl
 
 -- ---- one proposal a ballot
 
@@ -650,10 +652,10 @@ report_awaited : {r : Roster} {own room : ℕ} {s : State} {line : List ℕ} →
 unfolding awaited
 report_awaited {r} {s = s} {line} a =
     let m = received line in
-    let open-now = not-false (awaited r (marks_of s) m.heading.ballot m.heading.sender) a.timely in
+    let open-now = not-false (awaited r (marks_of s) m.ballot m.sender) a.timely in
     let of-ballot = and_right (is_set s.classic) _ open-now in
-    let first-time = and_right (same_ballot m.heading.ballot s.ballot) _ of-ballot in
-    not-true (reaches s.reported (quorum r)) (and_right (not (bit s.reported m.heading.sender)) _ first-time)
+    let first-time = and_right (same_ballot m.ballot s.ballot) _ of-ballot in
+    not-true (reaches s.reported (quorum r)) (and_right (not (bit s.reported m.sender)) _ first-time)
 
 -- a step that sends leaves the reports of a quorum
 pub sends_completes : (r : Roster) (own room : ℕ) (s : State) (line : List ℕ) {m : Frame} → (step r own room s line).sending ≡ sends m

@@ -27,13 +27,12 @@ use Rattle.proposal.specs.Proposal.{remaining}
 use Rattle.proposal.specs.ProposalLaws.{report_keeps, proposal_fits, remaining_all_valid, remaining_distinct, remaining_short, remaining_fits}
 use Rattle.frame.specs.declared.Frame.{Frame}
 use Rattle.frame.specs.Layout.{first}
-use Rattle.frame.specs.Kinds as kinds
 use Rattle.frame.specs.Kinds.{uses, is_kind, unused_zero, zero_unless}
-use Rattle.frame.specs.Format.{proper, writable, message}
-use Rattle.frame.specs.FromLaws.{Sized}
+use Rattle.frame.specs.Format.{proper, writable}
 use Rattle.site.specs.Site.{seated, is_set}
 use Rattle.site.specs.SiteLaws.{seated_is}
-use Rattle.site.specs.MessageLaws.{read_first_fits, read_second_fits, read_view_fits, message_writable, bare_writable}
+use Rattle.site.specs.Message.{message}
+use Rattle.site.specs.MessageLaws.{read_first_fits, read_second_fits, read_view_fits, message_writable}
 use Rattle.site.specs.Reply.{sends}
 use Rattle.site.specs.ReplyLaws.{silent_sends, sends_same, Sent, sent_line}
 use Rattle.leader.specs.declared.State.{State}
@@ -51,7 +50,6 @@ use Rattle.leader.specs.Leader.{
   form,
   waiting,
   reporting,
-  heading_of,
   report_in,
   proposed,
   p2a,
@@ -78,47 +76,43 @@ use Rattle.leader_laws.specs.LeaderLaws.{
   proposed_short,
 }
 
--- ---- the kinds that are taken
+-- ---- the kinds that are taken: 3 P1B, 4 PROPOSE, 10 LEADER
 
 abbrev is_taken : ℕ → Bool
-is_taken k = eqb k kinds.P1B || (eqb k kinds.PROPOSE || eqb k kinds.LEADER)
+is_taken k = eqb k 3 || (eqb k 4 || eqb k 10)
 
 only_three : all_to 11 (λ k. beq (bit taken k) (is_taken k)) ≡ true
 unfolding all_to bit
 only_three = refl
 
--- P1B, PROPOSE and LEADER are taken, and no other kind
-pub taken_is : (k : ℕ) → bit taken k ≡ (eqb k kinds.P1B || (eqb k kinds.PROPOSE || eqb k kinds.LEADER))
+-- they, and no other kind
+pub taken_is : (k : ℕ) → bit taken k ≡ (eqb k 3 || (eqb k 4 || eqb k 10))
 taken_is k =
     ⊎_elim (λ p. beq_true (bit taken k) (is_taken k) (all_each 11 (λ i. beq (bit taken i) (is_taken i)) only_three k p))
     (λ (p : 11 ≤ k).
     bit_out taken 11 k (lit< tt) p
-    ∙ sym (rw (ne_eqb k kinds.P1B (λ e. omega arith), ne_eqb k kinds.PROPOSE (λ e. omega arith), ne_eqb k kinds.LEADER (λ e. omega arith))))
+    ∙ sym (rw (ne_eqb k 3 (λ e. omega arith), ne_eqb k 4 (λ e. omega arith), ne_eqb k 10 (λ e. omega arith))))
     (lt_or_le k 11)
 
 -- each goes by its name
-pub kind_of_lem : (kind_of kinds.P1B ≡ P1B) × (kind_of kinds.PROPOSE ≡ PROPOSE) × (kind_of kinds.LEADER ≡ LEADER)
+pub kind_of_lem : (kind_of 3 ≡ P1B) × (kind_of 4 ≡ PROPOSE) × (kind_of 10 ≡ LEADER)
 kind_of_lem = (refl, refl, refl)
 
 -- ---- which frames FORM allows
 
 -- P2A, P1A and FAST leave 0 what their kind doesn't use
-p2a_proper : (own : ℕ) (view : View) (ballot : Ballot) (h : List ℕ) → length h ≤ capacity → proper capacity (p2a own view ballot h) ≡ true
+p2a_proper : (own : ℕ) (view : View) (ballot : Ballot) (h : List ℕ) → length h ≤ capacity
+    → proper capacity (message 5 own view ballot (record { 0 = 0 }) 0 h []) ≡ true
 unfolding proper is_kind uses unused_zero zero_unless
 p2a_proper own view ballot h p = rw (le-leb (length h) capacity p)
 
-p1a_proper : (own : ℕ) (view : View) (ballot : Ballot) → proper capacity (message (heading_of kinds.P1A own view ballot) [] []) ≡ true
+p1a_proper : (own : ℕ) (view : View) (ballot : Ballot) → proper capacity (message 1 own view ballot (record { 0 = 0 }) 0 [] []) ≡ true
 unfolding proper is_kind uses unused_zero zero_unless
 p1a_proper own view ballot = refl
 
-fast_proper : (own : ℕ) (view : View) (ballot : Ballot) → proper capacity (message (heading_of kinds.FAST own view ballot) [] []) ≡ true
+fast_proper : (own : ℕ) (view : View) (ballot : Ballot) → proper capacity (message 2 own view ballot (record { 0 = 0 }) 0 [] []) ≡ true
 unfolding proper is_kind uses unused_zero zero_unless
 fast_proper own view ballot = refl
-
--- numbers of such a heading that fit
-heading_sized : (kind own : ℕ) (view : View) (ballot : Ballot) → kind < 256 → own < 256 → view.0 < 2 ^ 32 → ballot.0 < 2 ^ 32
-    → Sized (heading_of kind own view ballot)
-heading_sized kind own view ballot k a b c = record { kind = k; sender = a; view = b; ballot = c; proven_ballot = lit< tt; mask = lit< tt }
 
 -- ---- the words of the proposal
 
@@ -144,8 +138,8 @@ report_fits {s = s} line e f =
       view_fits = f.view_fits;
       ballot_fits = f.ballot_fits;
       pending_fits = f.pending_fits;
-      proven_fits = each_stored s.proven m.heading.sender f.proven_fits (read_first_fits limit line taken e);
-      held_fits = each_stored s.held m.heading.sender f.held_fits (read_second_fits limit line taken e);
+      proven_fits = each_stored s.proven m.sender f.proven_fits (read_first_fits limit line taken e);
+      held_fits = each_stored s.held m.sender f.held_fits (read_second_fits limit line taken e);
     }
 
 module _ {own : ℕ} {s : State} (f : Fits own s) where
@@ -162,18 +156,19 @@ module _ {own : ℕ} {s : State} (f : Fits own s) where
   -- P2A, P1A and FAST of it
   p2a_writable : (r : Roster) → writable (p2a own s.view s.ballot (proposed r s)) ≡ true
   p2a_writable r =
-      message_writable _ (heading_sized kinds.P2A own s.view s.ballot (lit< tt) f.own_fits f.view_fits f.ballot_fits) (proposed_each r) none
-      (p2a_proper own s.view s.ballot (proposed r s) (proposed_short r s))
+      message_writable 5 own s.view s.ballot (record { 0 = 0 }) 0 (proposed_short r s) (omega arith) (proposed_each r) none (lit< tt)
+      f.own_fits f.view_fits f.ballot_fits (lit< tt) (lit< tt) (p2a_proper own s.view s.ballot (proposed r s) (proposed_short r s))
 
   invitation_writable : (ballot : Ballot) (fast : ℕ) → ballot.0 < 2 ^ 32 → writable (invitation own s.view ballot fast) ≡ true
   invitation_writable ballot fast l = go (is_set fast)
     where
-      sized : (kind : ℕ) → kind < 256 → Sized (heading_of kind own s.view ballot)
-      sized kind k = heading_sized kind own s.view ballot k f.own_fits f.view_fits l
-
-      go : (b : Bool) → writable (message (heading_of (cond b kinds.FAST kinds.P1A) own s.view ballot) [] []) ≡ true
-      go true = bare_writable _ (sized kinds.FAST (lit< tt)) (fast_proper own s.view ballot)
-      go false = bare_writable _ (sized kinds.P1A (lit< tt)) (p1a_proper own s.view ballot)
+      go : (b : Bool) → writable (message (cond b 2 1) own s.view ballot (record { 0 = 0 }) 0 [] []) ≡ true
+      go true =
+          message_writable 2 own s.view ballot (record { 0 = 0 }) 0 (omega arith) (omega arith) none none (lit< tt) f.own_fits f.view_fits
+          l (lit< tt) (lit< tt) (fast_proper own s.view ballot)
+      go false =
+          message_writable 1 own s.view ballot (record { 0 = 0 }) 0 (omega arith) (omega arith) none none (lit< tt) f.own_fits f.view_fits
+          l (lit< tt) (lit< tt) (p1a_proper own s.view ballot)
 
 module _ {own : ℕ} {s : State} (f : Fits own s) where
   -- each frame that a step sends has a line

@@ -33,7 +33,7 @@ use Rattle.refusal.specs.Refusal.{is_refused}
 use Rattle.refusal.specs.Rules.{Rule, ◌gives◌, judged, answer}
 use Rattle.refusal.specs.AnswerLaws.{stops, judged_refused, judged_accepted, answer_none}
 use Rattle.refusal.specs.JudgedLaws.{NoneHolds, passed, pass, test_of, no_test}
-use Rattle.frame.specs.declared.Head.{Head}
+use Rattle.frame.specs.declared.Heading.{Heading}
 use Rattle.frame.specs.declared.Reading.{Reading}
 use Rattle.frame.specs.Format.{reading_of, reading_with, frame_with, malformed}
 use Rattle.frame.specs.FormatLaws.{read_n}
@@ -128,35 +128,35 @@ unfolding judged
 judged_on refuse accepted [] b passed = refl
 judged_on refuse accepted (test gives r ∷ a) b (pass f n) = rw f (judged_on refuse accepted a b n)
 
-module _ (r : Roster) (s : State) (z : Sized s.entries) (line : List ℕ) (head : Head) (w : List ℕ) (x : Answer) (b : Bool)
+module _ (r : Roster) (s : State) (z : Sized s.entries) (line : List ℕ) (head : Heading) (w : List ℕ) (x : Answer) (b : Bool)
     (f : reading_with head w ≡ reading_of limit line taken) (a : x ≡ answer (checks r s (reading_with head w))) (g : b ≡ is_refused x) where
   merge_checks : List Rule
-  merge_checks = merge_rules (merge_of r (with_vote s.entries (vote line).heading.sender (arrived (vote line))) s (arrived (vote line)))
+  merge_checks = merge_rules (merge_of r (with_vote s.entries (vote line).sender (arrived (vote line))) s (arrived (vote line)))
 
   pub steps_refused : b ≡ true → record { answer = x; supporters = 0; state = s } ≡ step r s line
   unfolding step malformed merge_checks
   steps_refused c =
-      judged_refused (refuse s) (accepted r s (vote line).heading.sender (arrived (vote line))) (rules r s line) x
+      judged_refused (refuse s) (accepted r s (vote line).sender (arrived (vote line))) (rules r s line) x
       (stops (checks r s (reading_of limit line taken)) merge_checks (subst (λ (d : Reading). x ≡ answer (checks r s d)) f a) g c) (sym g ∙ c)
       (λ (y : Answer) (o : Outcome). record { answer = y; supporters = 0; state = s } ≡ o) (λ (q : Refusal). refl)
 
   none : b ≡ false → NoneHolds (checks r s (reading_with head w))
   none c = answer_none (checks r s (reading_with head w)) x a (sym g ∙ c)
 
-  pub passes : b ≡ false → Passed s.entries.words s.entries.counts head.heading.sender (arrived (frame_with head w))
+  pub passes : b ≡ false → Passed s.entries.words s.entries.counts head.sender (arrived (frame_with head w))
   unfolding test_of
   passes c =
       let n = none c in
       let few = (valid_figures r (config_sound z (no_test n Config)).roster).max_sites in
       record {
-        inside = omega (arith, leb-false r.n head.heading.sender (no_test n Sender), few);
+        inside = omega (arith, leb-false r.n head.sender (no_test n Sender), few);
         short = rw length-take (omega (arith, ap (λ (o : Reading). o.frame.n) f, read_n limit line taken));
         agrees = no_test n Contradiction;
       }
 
-  pub steps_concluded : b ≡ false → concluded r s head.heading.sender (arrived (frame_with head w)) ≡ step r s line
+  pub steps_concluded : b ≡ false → concluded r s head.sender (arrived (frame_with head w)) ≡ step r s line
   unfolding step malformed merge_checks
   steps_concluded c =
-      subst (λ (d : Reading). concluded r s d.frame.heading.sender (arrived d.frame) ≡ step r s line) (sym f)
-      (sym (judged_on (refuse s) (accepted r s (vote line).heading.sender (arrived (vote line))) (checks r s (reading_of limit line taken)) merge_checks
+      subst (λ (d : Reading). concluded r s d.frame.sender (arrived d.frame) ≡ step r s line) (sym f)
+      (sym (judged_on (refuse s) (accepted r s (vote line).sender (arrived (vote line))) (checks r s (reading_of limit line taken)) merge_checks
       (subst (λ (d : Reading). NoneHolds (checks r s d)) f (none c))))

@@ -9,16 +9,14 @@ use Rattle.history.specs.declared.History.{History as Stored}
 use Rattle.history.specs.History.{extends}
 use Rattle.history.specs.Words.{limit, commands, valid_stored, stored}
 use Rattle.merge.specs.declared.Merged.{Merged}
-use Rattle.merge.specs.Merged.{merged_within}
+use Rattle.merge.specs.Merged.{merged}
 use Rattle.table.specs.declared.Table.{Table}
 use Rattle.table.specs.Table.{row_of, stored_at, empty_table, valid_table}
 use Rattle.refusal.specs.declared.Refusal.{Refusal}
 use Rattle.refusal.specs.declared.Refusal.TheVariants.{Config, Form, Sender, Stale, Proof, Contradiction, Split, Full}
 use Rattle.refusal.specs.Rules.{Rule, ◌gives◌, judged}
 use Rattle.content.specs.Content.{history_rules, contradicts}
-use Rattle.frame.specs.declared.Heading.{Heading}
 use Rattle.frame.specs.declared.Frame.{Frame}
-use Rattle.frame.specs.Kinds as kinds
 use Rattle.frame.specs.Layout.{first}
 use Rattle.frame.specs.Format.{reading_of, malformed}
 use Rattle.learner.specs.declared.State.{State}
@@ -36,9 +34,9 @@ fresh = record { entries = empty_table; learned = stored [] }
 unfoldable pub config : Roster → State → Bool
 config r s = not (valid_roster r && (valid_table limit r.n s.entries && valid_stored limit s.learned))
 
--- the kinds that a learner takes
+-- the one kind that a learner takes, P2B, as a set of kinds: bit 7
 abbrev pub taken : ℕ
-taken = kinds.set_of (kinds.P2B ∷ [])
+taken = 128
 
 -- FORM: no line of a kind that the learner takes
 abbrev pub form : List ℕ → Bool
@@ -69,11 +67,10 @@ claimed r t h = leb (quorum r) (supporters r t h)
 unfoldable pub claims : Roster → Table → List ℕ → List (List ℕ)
 claims r t h = cond (claimed r t h) (h ∷ []) []
 
--- a merge so far with further histories, one after the other, up to the first that does not merge. It is a fold, exact for at most one history, which
--- is all that `claims` has: of more it may say FULL, by their order, where all of them have no common extension and SPLIT is to be given
+-- a merge so far with further histories, one after the other, up to the first that does not merge
 unfoldable pub further : Merged → List (List ℕ) → Merged
 further m [] = m
-further m (h ∷ hs) = further (cond (m.split || m.full) m (merged_within limit (commands m.history) h)) hs
+further m (h ∷ hs) = further (cond (m.split || m.full) m (merged limit (commands m.history) h)) hs
 
 -- "learned becomes the merge of itself and the arrived history": of what is learned, l, and the claims. Without a claim it stays as it is.
 unfoldable pub merging : Stored → List (List ℕ) → Merged
@@ -98,19 +95,15 @@ refuse s e = record { answer = Refused e; supporters = 0; state = s }
 
 -- ---- the refusals of a vote
 
--- SENDER: sender ≥ N
-abbrev pub unknown : Roster → ℕ → Bool
-unknown r site = leb r.n site
-
--- of the heading of a vote. STALE: "P2B needs ballot ≥ 1". PROOF: a mask bit at N or above, or fewer than N-f ones
-abbrev pub vote_heading : Roster → Heading → List Rule
+-- SENDER: sender ≥ N. STALE: "P2B needs ballot ≥ 1". PROOF: a mask bit at N or above, or fewer than N-f ones
+abbrev pub vote_heading : Roster → Frame → List Rule
 vote_heading r v =
-    unknown r v.sender gives Sender ∷
+    leb r.n v.sender gives Sender ∷
     zero_ballot v.ballot gives Stale ∷
     unproven v.mask r.n (quorum r) gives Proof ∷ []
 
 -- of a vote for h whose sender has this entry, up to its merge
-abbrev pub vote_rules : Roster → List ℕ → Heading → List ℕ → List Rule
+abbrev pub vote_rules : Roster → List ℕ → Frame → List ℕ → List Rule
 vote_rules r entry v h = vote_heading r v ++ (history_rules h ++ (contradicts entry h gives Contradiction ∷ []))
 
 -- "SPLIT and FULL speak of that merge." SPLIT: no common extension exists. FULL: the result would exceed 32 commands
@@ -123,13 +116,13 @@ merge_rules m = m.split gives Split ∷ m.full gives Full ∷ []
 abbrev pub early_rules : Roster → State → List ℕ → List Rule
 early_rules r s line =
     let v = vote line in
-    config r s gives Config ∷ form line gives Form ∷ vote_rules r (row_of s.entries v.heading.sender) v.heading (arrived v)
+    config r s gives Config ∷ form line gives Form ∷ vote_rules r (row_of s.entries v.sender) v (arrived v)
 
 abbrev pub rules : Roster → State → List ℕ → List Rule
 rules r s line =
     let v = vote line in
     let h = arrived v in
-    early_rules r s line ++ merge_rules (merge_of r (with_vote s.entries v.heading.sender h) s h)
+    early_rules r s line ++ merge_rules (merge_of r (with_vote s.entries v.sender h) s h)
 
 unfoldable pub step : Roster → State → List ℕ → Outcome
-step r s line = judged (refuse s) (accepted r s (vote line).heading.sender (arrived (vote line))) (rules r s line)
+step r s line = judged (refuse s) (accepted r s (vote line).sender (arrived (vote line))) (rules r s line)

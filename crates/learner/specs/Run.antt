@@ -18,6 +18,6 @@ outcomes r s (line ∷ lines) = step r s line ∷ outcomes r (step r s line).sta
 
 -- among the lines of a run from s, site i has an accepted vote that carries h
 pub data Voted (r : Roster) (i : ℕ) (h : List ℕ) : State → List (List ℕ) → Type 0 where
-  now : {s : State} {line : List ℕ} {lines : List (List ℕ)} → (step r s line).answer ≡ Accepted → (vote line).heading.sender ≡ i → arrived (vote line) ≡ h
+  now : {s : State} {line : List ℕ} {lines : List (List ℕ)} → (step r s line).answer ≡ Accepted → (vote line).sender ≡ i → arrived (vote line) ≡ h
       → Voted r i h s (line ∷ lines)
   later : {s : State} {line : List ℕ} {lines : List (List ℕ)} → Voted r i h (step r s line).state lines → Voted r i h s (line ∷ lines)

@@ -75,7 +75,7 @@ run_refused r s before line more e p =
     ∙ ap (λ (o : Outcome). run r o.state more) (refused_is r (run r s before) line e p)
     ∙ sym (run_append r s before more)
 
-pub outcomes_append : (r : Roster) (s : State) (lines more : List (List ℕ)) → outcomes r s (lines ++ more) ≡ outcomes r s lines ++ outcomes r (run r s lines) more
+outcomes_append : (r : Roster) (s : State) (lines more : List (List ℕ)) → outcomes r s (lines ++ more) ≡ outcomes r s lines ++ outcomes r (run r s lines) more
 unfolding outcomes run
 outcomes_append r s [] more = refl
 outcomes_append r s (line ∷ lines) more = ap (λ (os : List Outcome). step r s line ∷ os) (outcomes_append r (step r s line).state lines more)
@@ -165,11 +165,11 @@ abbrev Entered : State → List ℕ → ℕ → Type 0
 Entered s h i = Extends (row_of s.entries i) h
 
 -- the entry of a site that has just voted for h extends it
-vote_row : {r : Roster} {s : State} (line h : List ℕ) (i : ℕ) → Sound r s → (step r s line).answer ≡ Accepted → (vote line).heading.sender ≡ i → arrived (vote line) ≡ h
+vote_row : {r : Roster} {s : State} (line h : List ℕ) (i : ℕ) → Sound r s → (step r s line).answer ≡ Accepted → (vote line).sender ≡ i → arrived (vote line) ≡ h
     → Entered (step r s line).state h i
 vote_row {r} {s} line h i p a e f =
     subst (λ (x : ℕ). Extends (row_of (step r s line).state.entries x) h) e
-    (subst (λ (x : List ℕ). Extends (row_of (step r s line).state.entries (vote line).heading.sender) x) f (vote_entered p (accepts_is r s line a)))
+    (subst (λ (x : List ℕ). Extends (row_of (step r s line).state.entries (vote line).sender) x) f (vote_entered p (accepts_is r s line a)))
 
 -- after any line, a site that had entered h, or votes for it, has entered h or votes for it later
 entered_or_later : {r : Roster} {s : State} {line : List ℕ} {lines : List (List ℕ)} (h : List ℕ) (i : ℕ) → Sound r s

@@ -1,5 +1,5 @@
 -- One step of the learner: what holds of an accepted vote, and what the state keeps.
-use Rattle.std.specs.Prelude.{◌≡◌, refl, true, false, not, ◌&&◌, ◌||◌, List, ℕ, ◌≤◌, ◌<◌, eqb, length}
+use Rattle.std.specs.Prelude.{◌≡◌, refl, true, false, not, ◌&&◌, ◌||◌, List, ℕ, ◌≤◌, ◌<◌, leb, eqb, length}
 use Rattle.std.proofs.Common.{sym, ap, ◌∙◌, subst, true≢false, arith, le-leb, leb-false, ne_eqb, lit<, length-take}
 use Rattle.std.proofs.Math.Logic.{⊎_elim}
 use Rattle.std.specs.Bool.{beq}
@@ -22,7 +22,7 @@ use Rattle.history.specs.ValidLaws.{ValidHistory, valid_parts, parts_valid, not_
 use Rattle.history.specs.Words.{limit, commands, valid_stored}
 use Rattle.history.specs.WordsLaws.{commands_stored, stored_valid, valid_stored_history, valid_stored_length}
 use Rattle.merge.specs.declared.Merged.{Merged}
-use Rattle.merge.specs.Merged.{merged_within}
+use Rattle.merge.specs.Merged.{merged}
 use Rattle.merge.specs.MergeLaws.{is_merge_valid}
 use Rattle.merge.specs.MergedLaws.{Answers, is_split, is_full, is_found, merged_answers}
 use Rattle.table.specs.declared.Table.{Table}
@@ -35,7 +35,6 @@ use Rattle.refusal.specs.declared.Refusal.TheVariants.{Config, Form, Sender, Sta
 use Rattle.refusal.specs.Rules.{judged}
 use Rattle.refusal.specs.Order.{in_order, follows}
 use Rattle.refusal.specs.JudgedLaws.{GivenFirst, NoneHolds, Judgement, refused, accepts, judgement, test_of, no_test}
-use Rattle.frame.specs.Kinds as kinds
 use Rattle.frame.specs.Format.{reading_of, malformed}
 use Rattle.frame.specs.FormatLaws.{found_n}
 use Rattle.learner.specs.declared.State.{State}
@@ -55,7 +54,6 @@ use Rattle.learner.specs.Learner.{
   after,
   accepted,
   refuse,
-  unknown,
   rules,
   step,
 }
@@ -66,15 +64,15 @@ use Rattle.learner.specs.Learner.{
 pub record Accepts (r : Roster) (s : State) (line : List ℕ) : Type 0 where
   pub configured : config r s ≡ false
   pub framed : form line ≡ false
-  pub from_site : unknown r (vote line).heading.sender ≡ false
-  pub balloted : zero_ballot (vote line).heading.ballot ≡ false
-  pub proven : unproven (vote line).heading.mask r.n (quorum r) ≡ false
+  pub from_site : leb r.n (vote line).sender ≡ false
+  pub balloted : zero_ballot (vote line).ballot ≡ false
+  pub proven : unproven (vote line).mask r.n (quorum r) ≡ false
   pub right : wrong (arrived (vote line)) ≡ false
   pub proper : improper (arrived (vote line)) ≡ false
-  pub agrees : contradicts (row_of s.entries (vote line).heading.sender) (arrived (vote line)) ≡ false
-  pub joins : (merge_of r (with_vote s.entries (vote line).heading.sender (arrived (vote line))) s (arrived (vote line))).split ≡ false
-  pub fits : (merge_of r (with_vote s.entries (vote line).heading.sender (arrived (vote line))) s (arrived (vote line))).full ≡ false
-  pub outcome : step r s line ≡ accepted r s (vote line).heading.sender (arrived (vote line))
+  pub agrees : contradicts (row_of s.entries (vote line).sender) (arrived (vote line)) ≡ false
+  pub joins : (merge_of r (with_vote s.entries (vote line).sender (arrived (vote line))) s (arrived (vote line))).split ≡ false
+  pub fits : (merge_of r (with_vote s.entries (vote line).sender (arrived (vote line))) s (arrived (vote line))).full ≡ false
+  pub outcome : step r s line ≡ accepted r s (vote line).sender (arrived (vote line))
 
 pub data Stepped (r : Roster) (s : State) (line : List ℕ) : Type 0 where
   refuses : (e : Refusal) → GivenFirst e (rules r s line) → step r s line ≡ refuse s e → Stepped r s line
@@ -82,9 +80,9 @@ pub data Stepped (r : Roster) (s : State) (line : List ℕ) : Type 0 where
 
 pub stepped : (r : Roster) (s : State) (line : List ℕ) → Stepped r s line
 unfolding step test_of
-stepped r s line = go (judgement (refuse s) (accepted r s (vote line).heading.sender (arrived (vote line))) (rules r s line))
+stepped r s line = go (judgement (refuse s) (accepted r s (vote line).sender (arrived (vote line))) (rules r s line))
   where
-    none : NoneHolds (rules r s line) → step r s line ≡ accepted r s (vote line).heading.sender (arrived (vote line)) → Accepts r s line
+    none : NoneHolds (rules r s line) → step r s line ≡ accepted r s (vote line).sender (arrived (vote line)) → Accepts r s line
     none n o =
         record {
           configured = no_test n Config;
@@ -100,7 +98,7 @@ stepped r s line = go (judgement (refuse s) (accepted r s (vote line).heading.se
           outcome = o;
         }
 
-    go : Judgement (refuse s) (accepted r s (vote line).heading.sender (arrived (vote line))) (rules r s line) → Stepped r s line
+    go : Judgement (refuse s) (accepted r s (vote line).sender (arrived (vote line))) (rules r s line) → Stepped r s line
     go (refused e g o) = refuses e g o
     go (accepts n o) = accepting (none n o)
 
@@ -139,15 +137,15 @@ pub step_config : (r : Roster) (s : State) (line : List ℕ) → config r s ≡ 
 unfolding step judged
 step_config r s line e = rw e
 
--- the learner takes P2B and no other kind
-only_p2b : all_to 8 (λ k. beq (bit taken k) (eqb k kinds.P2B)) ≡ true
+-- the learner takes P2B, kind 7, and no other
+only_p2b : all_to 8 (λ k. beq (bit taken k) (eqb k 7)) ≡ true
 unfolding all_to bit
 only_p2b = refl
 
-pub taken_is : (k : ℕ) → bit taken k ≡ eqb k kinds.P2B
+pub taken_is : (k : ℕ) → bit taken k ≡ eqb k 7
 taken_is k =
-    ⊎_elim (λ p. beq_true (bit taken k) (eqb k kinds.P2B) (all_each 8 (λ i. beq (bit taken i) (eqb i kinds.P2B)) only_p2b k p))
-    (λ (p : 8 ≤ k). bit_out taken 8 k (lit< tt) p ∙ sym (ne_eqb k kinds.P2B (λ e. omega arith)))
+    ⊎_elim (λ p. beq_true (bit taken k) (eqb k 7) (all_each 8 (λ i. beq (bit taken i) (eqb i 7)) only_p2b k p))
+    (λ (p : 8 ≤ k). bit_out taken 8 k (lit< tt) p ∙ sym (ne_eqb k 7 (λ e. omega arith)))
     (lt_or_le k 8)
 
 -- what the checks say of the arrived history
@@ -173,8 +171,8 @@ arrived_is {line = line} a =
       short = rw length-take (omega (arith, vote_count line a.framed));
     }
 
-pub sender_below : {r : Roster} {s : State} {line : List ℕ} → Accepts r s line → (vote line).heading.sender < r.n
-sender_below {r} {line = line} a = leb-false r.n (vote line).heading.sender a.from_site
+pub sender_below : {r : Roster} {s : State} {line : List ℕ} → Accepts r s line → (vote line).sender < r.n
+sender_below {r} {line = line} a = leb-false r.n (vote line).sender a.from_site
 
 -- ---- the entries
 
@@ -224,11 +222,11 @@ record Learned (g h : List ℕ) (m : Merged) : Type 0 where
   holds : Extends (commands m.history) h
   valid : valid_stored limit m.history ≡ true
 
-learned_merge : (g h : List ℕ) → ValidHistory g → length g ≤ limit → Arrived h → (merged_within limit g h).split ≡ false → (merged_within limit g h).full ≡ false
-    → Learned g h (merged_within limit g h)
+learned_merge : (g h : List ℕ) → ValidHistory g → length g ≤ limit → Arrived h → (merged limit g h).split ≡ false → (merged limit g h).full ≡ false
+    → Learned g h (merged limit g h)
 learned_merge g h p q a x y = go (merged_answers limit g h q a.short a.valid.distinct)
   where
-    go : Answers limit g h → Learned g h (merged_within limit g h)
+    go : Answers limit g h → Learned g h (merged limit g h)
     go (is_split e n) = absurd (true≢false (sym (ap (λ (m : Merged). m.split) e) ∙ x))
     go (is_full e m n) = absurd (true≢false (sym (ap (λ (m : Merged). m.full) e) ∙ y))
     go (is_found {m = m} e k n) =
@@ -241,7 +239,7 @@ learned_merge g h p q a x y = go (merged_answers limit g h q a.short a.valid.dis
 
 -- the merge of what is learned and the claims: that with the arrived history where it is claimed, else what is learned
 module _ (r : Roster) (t : Table) (s : State) (h : List ℕ) where
-  pub merge_claimed : claimed r t h ≡ true → merge_of r t s h ≡ merged_within limit (commands s.learned) h
+  pub merge_claimed : claimed r t h ≡ true → merge_of r t s h ≡ merged limit (commands s.learned) h
   unfolding claims merging further
   merge_claimed e = rw e
 
@@ -284,13 +282,13 @@ pub record Advance (r : Roster) (s next : State) : Type 0 where
   pub learned_grows : Extends (commands next.learned) (commands s.learned)
 
 module _ {r : Roster} {s : State} (p : Sound r s) {line : List ℕ} (a : Accepts r s line) where
-  in_table : (vote line).heading.sender < sites
+  in_table : (vote line).sender < sites
   in_table = omega (arith, sender_below a, (valid_figures r p.roster).max_sites)
 
-  accepted_advance : Advance r s (after r (with_vote s.entries (vote line).heading.sender (arrived (vote line))) s (arrived (vote line)))
+  accepted_advance : Advance r s (after r (with_vote s.entries (vote line).sender (arrived (vote line))) s (arrived (vote line)))
   accepted_advance =
       let h = arrived (vote line) in
-      let site = (vote line).heading.sender in
+      let site = (vote line).sender in
       let t = with_vote s.entries site h in
       let v = arrived_is a in
       record {
@@ -305,10 +303,10 @@ module _ {r : Roster} {s : State} (p : Sound r s) {line : List ℕ} (a : Accepts
       }
 
   -- an accepted vote leaves its site's entry extending it
-  pub vote_entered : Extends (row_of (step r s line).state.entries (vote line).heading.sender) (arrived (vote line))
+  pub vote_entered : Extends (row_of (step r s line).state.entries (vote line).sender) (arrived (vote line))
   vote_entered =
       rw a.outcome
-      (vote_enters p.sized (vote line).heading.sender (arrived (vote line)) in_table (arrived_is a).short a.agrees)
+      (vote_enters p.sized (vote line).sender (arrived (vote line)) in_table (arrived_is a).short a.agrees)
 
   -- where the entries of N-f sites then extend it, what is learned does
   pub vote_learned : quorum r ≤ count_to r.n (λ i. extends (row_of (step r s line).state.entries i) (arrived (vote line)))
@@ -316,7 +314,7 @@ module _ {r : Roster} {s : State} (p : Sound r s) {line : List ℕ} (a : Accepts
   unfolding claimed supporters
   vote_learned q =
       let h = arrived (vote line) in
-      let t = with_vote s.entries (vote line).heading.sender h in
+      let t = with_vote s.entries (vote line).sender h in
       rw a.outcome
       (after_holds r t s h p.learned (arrived_is a) a.joins a.fits (le-leb (quorum r) _ (rw a.outcome at q)))
 

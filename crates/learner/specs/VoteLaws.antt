@@ -1,5 +1,5 @@
 -- What a vote does to the entries and to what is learned, and what SPLIT means: the facts that agreement rests on.
-use Rattle.std.specs.Prelude.{◌≡◌, refl, Bool, true, false, not, ◌&&◌, List, [], ◌∷◌, ◌++◌, ℕ, ◌≤◌, ◌<◌, eqb, length}
+use Rattle.std.specs.Prelude.{◌≡◌, refl, Bool, true, false, not, ◌&&◌, List, [], ◌∷◌, ◌++◌, ℕ, ◌≤◌, ◌<◌, leb, eqb, length}
 use Rattle.std.proofs.Common.{sym, ap, ◌∙◌, subst, true≢false, arith}
 use Rattle.std.proofs.Math.Decide.{ℕ_discrete}
 use borrow.Author.Tests.{leb-false, leb-true, eqb-true, eq-eqb, not-false}
@@ -26,12 +26,11 @@ use Rattle.refusal.specs.Refusal.{number}
 use Rattle.refusal.specs.Rules.{Rule, ◌gives◌}
 use Rattle.refusal.specs.JudgedLaws.{NoneHolds, passed, pass, GivenFirst, at_once, behind, test_of, no_test}
 use Rattle.frame.specs.declared.Frame.{Frame}
-use Rattle.frame.specs.Kinds as kinds
 use Rattle.frame.specs.Format.{reading_of, is_line, frame_of, malformed}
 use Rattle.frame.specs.FormatLaws.{found_line, found_taken, found_frame}
 use Rattle.learner.specs.declared.State.{State}
 use Rattle.learner.specs.declared.Outcome.{Outcome}
-use Rattle.learner.specs.Learner.{taken, form, vote, arrived, with_vote, supporters, claimed, merge_of, unknown, merge_rules, early_rules, rules, step}
+use Rattle.learner.specs.Learner.{taken, form, vote, arrived, with_vote, supporters, claimed, merge_of, merge_rules, early_rules, rules, step}
 use Rattle.learner.specs.StepLaws.{Accepts, Stepped, refuses, accepting, stepped, Sound, Arrived, taken_is, vote_count, vote_stored, vote_stays, merge_claimed, merge_unclaimed}
 
 -- ---- a vote that is heard
@@ -39,7 +38,7 @@ use Rattle.learner.specs.StepLaws.{Accepts, Stepped, refuses, accepting, stepped
 -- a vote that passes the checks before those of the merge, as far as they matter here
 pub record Heard (r : Roster) (line : List ℕ) : Type 0 where
   pub framed : form line ≡ false
-  pub from_site : unknown r (vote line).heading.sender ≡ false
+  pub from_site : leb r.n (vote line).sender ≡ false
   pub right : wrong (arrived (vote line)) ≡ false
   pub proper : improper (arrived (vote line)) ≡ false
 
@@ -59,11 +58,11 @@ module _ {r : Roster} {line : List ℕ} (a : Heard r line) where
   heard_frame = found_frame limit line taken found
 
   -- a P2B, from one of the sites
-  pub heard_kind : (vote line).heading.kind ≡ kinds.P2B
-  heard_kind = ap (λ (m : Frame). m.heading.kind) heard_frame ∙ eqb-true (frame_of line).heading.kind kinds.P2B (sym (taken_is (frame_of line).heading.kind) ∙ found_taken limit line taken found)
+  pub heard_kind : (vote line).kind ≡ 7
+  heard_kind = ap (λ (m : Frame). m.kind) heard_frame ∙ eqb-true (frame_of line).kind 7 (sym (taken_is (frame_of line).kind) ∙ found_taken limit line taken found)
 
-  pub heard_sender : (vote line).heading.sender < r.n
-  heard_sender = leb-false r.n (vote line).heading.sender a.from_site
+  pub heard_sender : (vote line).sender < r.n
+  heard_sender = leb-false r.n (vote line).sender a.from_site
 
   pub heard_arrived : Arrived (arrived (vote line))
   unfolding wrong
@@ -92,7 +91,7 @@ entry_is {t} z site h p q i = go (extends h (row_of t site)) refl (ℕ_discrete 
 
 -- the entries that a line's vote makes of a state's
 abbrev pub with_line : State → List ℕ → Table
-with_line s line = with_vote s.entries (vote line).heading.sender (arrived (vote line))
+with_line s line = with_vote s.entries (vote line).sender (arrived (vote line))
 
 -- N-f entries of a table extend h
 abbrev pub Backing : Roster → Table → List ℕ → Type 0

@@ -10,7 +10,7 @@ ghost use Rattle.learner.specs.Learner as spec;
 ghost use Rattle.learner.specs.Parts as parts;
 ghost use Rattle.learner.specs.Code.Vote as code;
 
-use frame::{Head, Heading};
+use frame::Heading;
 use history::History;
 use merge::Merged;
 use refusal::{Answer, Refusal, given};
@@ -57,12 +57,12 @@ fn config<'a>(r: Roster, words: &'a [u64], counts: &'a [u8], past: &[u64], count
 }
 
 // The answer to the heading of a vote.
-fn vote_heading(r: Roster, heading: Heading) -> Answer
-    ensures { result ≡ answer (spec.vote_heading r heading) }
+fn vote_heading(r: Roster, head: Heading) -> Answer
+    ensures { result ≡ answer (spec.vote_heading r (frame_with head [])) }
 {
-    let unknown = r.n <= heading.sender;
-    let stale = heading.ballot.is_zero();
-    let unproven = roster::unproven(heading.mask, r.n, r.quorum());
+    let unknown = r.n <= head.sender;
+    let stale = head.ballot.is_zero();
+    let unproven = roster::unproven(head.mask, r.n, r.quorum());
     given(
         unknown,
         Refusal::Sender,
@@ -75,21 +75,21 @@ fn vote_heading(r: Roster, heading: Heading) -> Answer
 }
 
 // The answer to a vote for h, up to its merge: the heading, then the commands, then the sender's entry.
-fn on_vote<'a>(r: Roster, entry: &'a [u64], heading: Heading, h: &'a [u64]) -> Answer
+fn on_vote<'a>(r: Roster, entry: &'a [u64], head: Heading, h: &'a [u64]) -> Answer
     requires { (length entry.now ≤ union_capacity) × (length h.now ≤ union_capacity) }
-    ensures { result ≡ answer (spec.vote_rules r entry.now heading h.now) }
+    ensures { result ≡ answer (spec.vote_rules r entry.now (frame_with head []) h.now) }
 {
-    let header = vote_heading(r, heading);
-    let stops = header.refuses();
+    let heading = vote_heading(r, head);
+    let stops = heading.refuses();
     if stops {
-        return header;
+        return heading;
     }
     let commands = content::ordered(h);
     let ends = commands.refuses();
     if ends {
         return commands;
     }
-    let clash = content::contradicts_within(entry, h);
+    let clash = content::contradicts(entry, h);
     given(clash, Refusal::Contradiction, Answer::Accepted)
 }
 
@@ -100,7 +100,7 @@ fn check<'a>(
     counts: &'a [u8],
     past: &'a [u64],
     count: u8,
-    head: Head,
+    head: Heading,
     all: &'a [u64; frame::CAPACITY],
 ) -> Answer
     ensures { result ≡ answer (code.checks r (parts.state_of words.now counts.now past.now count) (reading_with head all.now)) }
@@ -116,11 +116,10 @@ fn check<'a>(
     if stops {
         return line;
     }
-    let heading = head.heading;
-    let entry = table::row(words, counts, heading.sender as usize);
+    let entry = table::row(words, counts, head.sender as usize);
     let carried: &[u64] = all;
     let h = history::first(carried, head.n as usize);
-    on_vote(r, entry, heading, h)
+    on_vote(r, entry, head, h)
 }
 
 // Whether site i stands behind h once `site` has voted for it.
@@ -131,7 +130,7 @@ fn stands<'a>(words: &'a [u64], counts: &'a [u8], site: u8, h: &[u64], i: u8) ->
     if voter {
         return true;
     }
-    history::extends_within(table::row(words, counts, i as usize), h)
+    history::extends(table::row(words, counts, i as usize), h)
 }
 
 // How many of the first n sites stand behind h once `site` has voted for it.
@@ -157,7 +156,7 @@ fn merge_claims(r: Roster, k: u8, learned: &[u64; words::CAPACITY], count: u8, h
     let enough = r.quorum() <= k as u32;
     if enough {
         let present = history::first(learned, count as usize);
-        return merge::merge_within(words::LIMIT, present, h);
+        return merge::merge(words::LIMIT, present, h);
     }
     Merged {
         split: false,
@@ -190,16 +189,15 @@ fn conclude(
     counts: &mut [u8; 16],
     learned: &mut [u64; words::CAPACITY],
     count: &mut u8,
-    head: Head,
+    head: Heading,
     all: &[u64; frame::CAPACITY],
 ) -> Answered
-    requires { code.Passed words.old counts.old head.heading.sender (spec.arrived (frame_with head all.now)) }
-    ensures { parts.outcome_of result (parts.state_of words.new counts.new learned.new count.new) ≡ code.concluded r (parts.state_of words.old counts.old learned.old count.old) head.heading.sender (spec.arrived (frame_with head all.now)) }
+    requires { code.Passed words.old counts.old head.sender (spec.arrived (frame_with head all.now)) }
+    ensures { parts.outcome_of result (parts.state_of words.new counts.new learned.new count.new) ≡ code.concluded r (parts.state_of words.old counts.old learned.old count.old) head.sender (spec.arrived (frame_with head all.now)) }
 {
     let carried: &[u64] = all;
     let h = history::first(carried, head.n as usize);
-    let site = head.heading.sender;
-    let k = supporters(words, counts, r.n, site, h);
+    let k = supporters(words, counts, r.n, head.sender, h);
     let m = merge_claims(r, k, learned, *count, h);
     let answer = given(
         m.split,
@@ -217,15 +215,15 @@ fn conclude(
     let next = history.words;
     *learned = next;
     *count = history.count;
-    store(words, counts, site, h);
+    store(words, counts, head.sender, h);
     Answered {
         answer: Answer::Accepted,
         supporters: k,
     }
 }
 
-// The kinds of frames that a learner takes.
-const TAKEN: u16 = 1 << frame::P2B;
+// The kinds that a learner takes: P2B alone, which is bit 7.
+const TAKEN: u16 = 128;
 
 // One step in place, on the parts of a state: the entries' words and counts, and the words and count of what is learned. Any line is answered
 // in any state.

@@ -1,4 +1,3 @@
 -- Laws that the proofs of this crate share.
 mod Digits
 mod Answers
-mod Turns

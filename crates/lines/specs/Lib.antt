@@ -1,6 +1,2 @@
--- What the contracts of `lines` cite, and the laws of it.
+-- What the contracts of `lines` cite.
 pub mod Lines
-pub mod Code
-pub mod LinesLaws
-pub mod BufferLaws
-pub mod AnswerLaws

@@ -1,37 +1,23 @@
-// The lines of a program: a line out of input that arrives in any pieces, the roster that the first line gives, text put behind text, and an
-// answer as a line.
-ghost use Rattle.std.specs.Prelude.{◌≡◌, true, [], ◌∷◌, ◌+◌, ◌-◌, ◌≤◌, length, take, drop};
+// The lines of the learner's program: the roster that the first line gives, a line kept while it arrives, and an answer as a line.
+ghost use Rattle.std.specs.Prelude.{◌≡◌, true, ◌+◌, ◌≤◌, length, take};
 ghost use Rattle.std.proofs.lemmas.List.Edits.{sets};
 ghost use Rattle.frame.specs.Hex as hex;
 ghost use Rattle.lines.specs.Lines as spec;
-ghost use Rattle.lines.specs.Code.AnswerText as code;
 
 use roster::Roster;
 
 // The characters that a line is written with.
-const LINE_FEED: u8 = b'\n';
+const LINE_FEED: u8 = 10;
 
-const SPACE: u8 = b' ';
+const SPACE: u8 = 32;
 
-// The length of a roster's line, four digits and a line feed.
-const ROSTER_LINE: usize = 5;
-
-// The length of the longest answer, with its line feed.
-pub const LONGEST_ANSWER: usize = 8;
+const ZERO: u8 = 48;
 
 // A line by value: the first `len` bytes are its characters, and those after them are 0.
 #[derive(Drop)]
-struct Text {
-    len: usize,
-    bytes: [u8; LONGEST_ANSWER],
-}
-
-// How much of a line is kept once some bytes of input were pulled into it, where the bytes after those start, and whether the line is whole.
-#[derive(Drop)]
-pub struct Pulled {
+pub struct Text {
     pub len: usize,
-    pub next: usize,
-    pub whole: bool,
+    pub bytes: [u8; 8],
 }
 
 // The first n bytes, or all of them if there are fewer.
@@ -45,7 +31,7 @@ pub fn first<'a>(bytes: &'a [u8], n: usize) -> &'a [u8]
 fn is_digit(c: u8) -> bool
     ensures { result ≡ hex.is_digit c }
 {
-    ((b'0' <= c) & (c <= b'9')) | ((b'a' <= c) & (c <= b'f'))
+    ((48 <= c) & (c <= 57)) | ((97 <= c) & (c <= 102))
 }
 
 // The digit that a character is.
@@ -53,7 +39,7 @@ fn value(c: u8) -> u8
     requires { hex.is_digit c ≡ true }
     ensures { (result ≡ hex.value_of c) × (result ≤ 15) }
 {
-    if c <= b'9' { c - b'0' } else { c - b'a' + 10 }
+    if c <= 57 { c - 48 } else { c - 87 }
 }
 
 // Whether all four characters are lower-case hex digits.
@@ -75,7 +61,7 @@ fn byte(a: u8, b: u8) -> u8
 pub fn roster_of(line: &[u8]) -> Roster
     ensures { result ≡ spec.roster_of line.now }
 {
-    if line.len() != ROSTER_LINE {
+    if line.len() != 5 {
         return Roster { n: 0, f: 0 };
     }
     let digits = are_digits(line[0], line[1], line[2], line[3]);
@@ -91,65 +77,16 @@ pub fn roster_of(line: &[u8]) -> Roster
     }
 }
 
-// Puts `b` behind the first `len` bytes if there is room, and answers how many are in use then.
-fn push(line: &mut [u8], len: usize, b: u8) -> usize
-    ensures { (result ≡ spec.kept_length line.old len (b ∷ [])) × (line.new ≡ spec.kept line.old len (b ∷ [])) }
+// Puts `b` behind the first `len` bytes if there is room, and answers how many bytes are in use then. Where there is no room, nothing
+// changes.
+pub fn push(line: &mut [u8], len: usize, b: u8) -> usize
+    ensures { (result ≡ spec.pushed_length line.old len) × (line.new ≡ spec.pushed line.old len b) }
 {
     if line.len() <= len {
         return len;
     }
     line[len] = b;
     len + 1
-}
-
-// How many bytes there is room for behind the first `used`.
-pub fn room(out: &[u8], used: usize) -> usize
-    ensures { result ≡ length out.now - used }
-{
-    if out.len() < used {
-        return 0;
-    }
-    out.len() - used
-}
-
-// Puts `text` behind the first `used` bytes, as much of it as there is room for, and answers how many are in use then.
-fn put(out: &mut [u8], used: usize, text: &[u8]) -> usize
-    ensures { (result ≡ spec.kept_length out.old used text.now) × (out.new ≡ spec.kept out.old used text.now) }
-{
-    let mut end = used;
-    let mut i: usize = 0;
-    while i < text.len() {
-        let b = text[i];
-        i += 1;
-        end = push(out, end, b);
-    }
-    end
-}
-
-// Puts the bytes from `from` on, through the first line feed, behind the first `len` bytes of the line, as many as there is room for: so a line
-// is pulled out of input that arrives in any pieces. It is whole if the line feed came.
-pub fn pull(line: &mut [u8], len: usize, bytes: &[u8], from: usize) -> Pulled
-    ensures { (result ≡ spec.pulled line.old len (drop from bytes.now) from) × (line.new ≡ spec.kept line.old len (spec.through (drop from bytes.now))) }
-{
-    let mut end = len;
-    let mut next = from;
-    while next < bytes.len() {
-        let b = bytes[next];
-        next += 1;
-        end = push(line, end, b);
-        if b == LINE_FEED {
-            return Pulled {
-                len: end,
-                next,
-                whole: true,
-            };
-        }
-    }
-    Pulled {
-        len: end,
-        next,
-        whole: false,
-    }
 }
 
 // Writes a number in decimal from `at` on, and answers where it ends.
@@ -159,26 +96,26 @@ fn put_decimal(bytes: &mut [u8], at: usize, n: u8) -> usize
 {
     let one = n < 10;
     if one {
-        bytes[at] = b'0' + n;
+        bytes[at] = ZERO + n;
         return at + 1;
     }
     let two = n < 100;
     if two {
-        bytes[at] = b'0' + n / 10;
-        bytes[at + 1] = b'0' + n % 10;
+        bytes[at] = ZERO + n / 10;
+        bytes[at + 1] = ZERO + n % 10;
         return at + 2;
     }
-    bytes[at] = b'0' + n / 100;
-    bytes[at + 1] = b'0' + n / 10 % 10;
-    bytes[at + 2] = b'0' + n % 10;
+    bytes[at] = ZERO + n / 100;
+    bytes[at + 1] = ZERO + n / 10 % 10;
+    bytes[at + 2] = ZERO + n % 10;
     at + 3
 }
 
 // The answer's number and the supporters in decimal, as a line.
-fn answer_text(number: u8, supporters: u8) -> Text
-    ensures { result ≡ code.answer_text number supporters }
+pub fn answer_text(number: u8, supporters: u8) -> Text
+    ensures { result ≡ spec.answer_text number supporters }
 {
-    let mut bytes = [0u8; LONGEST_ANSWER];
+    let mut bytes = [0u8; 8];
     let at = put_decimal(&mut bytes, 0, number);
     bytes[at] = SPACE;
     let end = put_decimal(&mut bytes, at + 1, supporters);
@@ -187,14 +124,4 @@ fn answer_text(number: u8, supporters: u8) -> Text
         len: end + 1,
         bytes,
     }
-}
-
-// Puts the line that answers a line, the answer's number and the supporters, behind the first `used` bytes, as much of it as there is room for,
-// and answers how many are in use then.
-pub fn put_answer(out: &mut [u8], used: usize, number: u8, supporters: u8) -> usize
-    ensures { (result ≡ spec.kept_length out.old used (spec.answer_line number supporters)) × (out.new ≡ spec.kept out.old used (spec.answer_line number supporters)) }
-{
-    let text = answer_text(number, supporters);
-    let bytes: &[u8] = &text.bytes;
-    put(out, used, first(bytes, text.len))
 }

@@ -11,7 +11,7 @@ use Rattle.history.specs.CanonicalLaws.{canonical_length}
 use Rattle.history.specs.declared.History.{History}
 use Rattle.history.specs.Words.{stored}
 use Rattle.merge.specs.Merge.{appended, merge}
-use Rattle.merge.specs.Merged.{split, full, found, answered, merged_within, answer_of}
+use Rattle.merge.specs.Merged.{split, full, found, answered, merged, answer_of}
 
 pub answer_split : (limit : ℕ) (w h : List ℕ) → extends w h ≡ false → answer_of limit w h ≡ split
 unfolding answer_of
@@ -27,16 +27,16 @@ pub answer_found : (limit : ℕ) (w h v : List ℕ) (o : History) → extends w 
 unfolding answer_of
 answer_found limit w h v o e k p q = rw (e, ← k, p, q)
 
-pub merged_long_left : (limit : ℕ) (g h : List ℕ) → leb (length g) limit ≡ false → merged_within limit g h ≡ full
-unfolding merged_within
+pub merged_long_left : (limit : ℕ) (g h : List ℕ) → leb (length g) limit ≡ false → merged limit g h ≡ full
+unfolding merged
 merged_long_left limit g h p = rw p
 
-pub merged_long_right : (limit : ℕ) (g h : List ℕ) → leb (length h) limit ≡ false → merged_within limit g h ≡ full
-unfolding merged_within
+pub merged_long_right : (limit : ℕ) (g h : List ℕ) → leb (length h) limit ≡ false → merged limit g h ≡ full
+unfolding merged
 merged_long_right limit g h p = rw (p, and-false (leb (length g) limit))
 
-pub merged_union : (limit : ℕ) (g h : List ℕ) → leb (length g) limit ≡ true → leb (length h) limit ≡ true → merged_within limit g h ≡ answer_of limit (appended g h) h
-unfolding merged_within merge answer_of answered
+pub merged_union : (limit : ℕ) (g h : List ℕ) → leb (length g) limit ≡ true → leb (length h) limit ≡ true → merged limit g h ≡ answer_of limit (appended g h) h
+unfolding merged merge answer_of answered
 merged_union limit g h p q = rw (p, q) (go (extends (appended g h) h))
   where
     m : List ℕ

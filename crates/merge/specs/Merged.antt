@@ -23,10 +23,10 @@ unfoldable pub answered : ℕ → Option (List ℕ) → Merged
 answered limit none = split
 answered limit (some m) = cond (leb (length m) limit) (found m) full
 
--- The answer for g and h within a limit on their lengths and the merge's. Document 01's merge "ignores the limit"; here a g or h over it is answered as
--- full, since a merge of it would be over the limit too, and whether there is one is not looked at.
-unfoldable pub merged_within : ℕ → List ℕ → List ℕ → Merged
-merged_within limit g h = cond (leb (length g) limit && leb (length h) limit) (answered limit (merge g h)) full
+-- The answer for g and h under a limit on their lengths and the merge's. A g or h over the limit is answered as full, since a merge of it would be
+-- over the limit too; whether there is one is then not looked at.
+unfoldable pub merged : ℕ → List ℕ → List ℕ → Merged
+merged limit g h = cond (leb (length g) limit && leb (length h) limit) (answered limit (merge g h)) full
 
 -- the answer for a union w of g and h that is their merge if it extends h
 unfoldable pub answer_of : ℕ → List ℕ → List ℕ → Merged

@@ -15,12 +15,19 @@ pub struct Merged {
     pub history: History,
 }
 
+// The smaller of two numbers.
+fn smaller(a: usize, b: usize) -> usize
+    ensures { result ≡ min a b }
+{
+    if a < b { a } else { b }
+}
+
 // Appends to the first count words of buf the commands of more whose proposer and serial are not there yet, up to the end of buf.
 // Answers how many words there are then; the words behind them stay. A count past the end of buf counts as its length.
 pub fn append(buf: &mut [u64], count: usize, more: &[u64]) -> usize
     ensures { (result ≡ length (spec.appended_in buf.old count more.now)) × (buf.new ≡ spec.appended_in buf.old count more.now ++ drop result buf.old) }
 {
-    let mut n = words::smaller(count, buf.len());
+    let mut n = smaller(count, buf.len());
     let mut i: usize = 0;
     while i < more.len() {
         if buf.len() <= n {
@@ -98,7 +105,7 @@ pub fn nothing_new(g: &[u64], h: &[u64]) -> bool
 pub fn overflows(limit: u8, g: &[u64], h: &[u64]) -> bool
     ensures { result ≡ appending.overflows (min limit capacity) g.now h.now }
 {
-    let most = words::smaller(limit as usize, words::CAPACITY);
+    let most = smaller(limit as usize, words::CAPACITY);
     let m = g.len();
     if m <= most {
         let room = most - m;
@@ -163,9 +170,9 @@ fn settle(most: usize, work: &mut [u64], h: &[u64]) -> Merged
 }
 
 // The merge of g and h under a limit of at most 32.
-fn merge_up_to(most: usize, g: &[u64], h: &[u64]) -> Merged
+fn merge_within(most: usize, g: &[u64], h: &[u64]) -> Merged
     requires { most ≤ capacity }
-    ensures { result ≡ answer.merged_within most g.now h.now }
+    ensures { result ≡ answer.merged most g.now h.now }
 {
     let short_g = g.len() <= most;
     if !short_g {
@@ -182,11 +189,11 @@ fn merge_up_to(most: usize, g: &[u64], h: &[u64]) -> Merged
     settle(most, &mut work[..n], h)
 }
 
-// The merge of g and h within a limit: that there is none, that it is over the limit, or the merge. A limit over 32 counts as 32. Document 01's merge
-// has no limit; here a g or h over it is answered as too long, also where they have no merge. Where h repeats a proposer and serial, so is no history,
-// the answer may be that there is none though a common extension exists.
-pub fn merge_within(limit: u8, g: &[u64], h: &[u64]) -> Merged
-    ensures { result ≡ answer.merged_within (min limit capacity) g.now h.now }
+// The merge of g and h: that there is none, that it is over the limit, or the merge. A limit over 32 counts as 32. A g or h over the limit is
+// answered as too long. Where h repeats a proposer and serial, so is no history, the answer may be that there is none though a common extension
+// exists.
+pub fn merge(limit: u8, g: &[u64], h: &[u64]) -> Merged
+    ensures { result ≡ answer.merged (min limit capacity) g.now h.now }
 {
-    merge_up_to(words::smaller(limit as usize, words::CAPACITY), g, h)
+    merge_within(smaller(limit as usize, words::CAPACITY), g, h)
 }

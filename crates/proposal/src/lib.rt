@@ -6,6 +6,13 @@ ghost use Rattle.proposal.specs.Code.Work.{Begins};
 
 use history::History;
 
+// The smaller of two numbers.
+fn smaller(a: usize, b: usize) -> usize
+    ensures { result ≡ min a b }
+{
+    if a < b { a } else { b }
+}
+
 // The history of a site's report, as the part of the words that it is; an empty part where the site has not reported.
 fn report<'a>(words: &'a [u64], counts: &'a [u8], reported: u16, site: u8) -> &'a [u64]
     ensures { result.now ≡ spec.report words.now counts.now reported site }
@@ -91,7 +98,7 @@ pub fn propose<'a>(
 ) -> History
     ensures { result ≡ stored (spec.proposal (min limit capacity) n (spec.report proven.now proven_counts.now reported) (spec.report held.now held_counts.now reported) pending.now) }
 {
-    let most = words::smaller(limit as usize, words::CAPACITY);
+    let most = smaller(limit as usize, words::CAPACITY);
     let best = longest(proven, proven_counts, reported, n);
     let mut work = [0u64; words::CAPACITY];
     let all = assemble(

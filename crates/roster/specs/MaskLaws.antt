@@ -3,7 +3,7 @@
 use Rattle.std.specs.Prelude.{ℕ, zero, suc, ◌+◌, ◌*◌, ◌/◌, ◌%◌, ◌^◌, ◌≤◌, ◌<◌, ◌≡◌, refl, ◌↔◌, ◌≢◌, Bool, true, false, not, cond, ◌&&◌, ◌||◌, leb, ltb, eqb}
 use Rattle.std.proofs.Common.{zero-le, sym, ap, ap₂, ◌∙◌, subst, ⊎_elim, le_trans, le-add_right, lt_of_lt_of_le, not-suc-le-zero, zero-lt-suc, mod-lt, mod-eq_of_lt, pow-suc, mul_comm, add-zero, add_comm, le_of_eq, lt_irrefl, le-add_left, le_refl, lt-suc_self, le-div_iff_mul-le, one-mul, add-suc, add-mul, add-one, arith, pow_pos, pow_mono, shr-shr, shr_lt, leb-true, leb-false, le-leb, lt-ltb, le-ltb}
 use Rattle.std.proofs.Math.Bool.{and-false, or-true, or-false}
-use Rattle.std.proofs.lemmas.Bool.{false≢true, lt-leb, not-false}
+use Rattle.std.proofs.lemmas.Bool.{false≢true, lt-leb}
 use Rattle.std.proofs.Math.Nat.{le_dest, div-eq_of_lt}
 use Rattle.std.proofs.Math.Decide.{ℕ_discrete}
 use Rattle.std.proofs.Math.Arith.{lt-one, digits_lt, lt_of_le-ne}
@@ -12,10 +12,10 @@ use Rattle.std.proofs.lemmas.Nat.Bits.{and_high}
 use Rattle.std.proofs.lemmas.Nat.{or_shr, or_mod, or_lt, ones_cat}
 use Rattle.std.specs.Int.Count.{ones, ones_in, ones_step}
 use Rattle.std.proofs.Math.Pow.{split, high, low, field, mod-mod-pow, high_ones, pow-lt}
-use Rattle.basics.specs.Bools.{lt_or_le, true_or_false, or_left, or_right}
+use Rattle.basics.specs.Bools.{lt_or_le, true_or_false}
 use Rattle.roster.specs.Sites.{to_nat, count_to, mask_to}
 use Rattle.roster.specs.SitesLaws.{last_or_below, to_nat_le, count_cong, mask_suc}
-use Rattle.roster.specs.Mask.{bit, reaches, beyond, unproven, with_site}
+use Rattle.roster.specs.Mask.{bit, reaches, beyond, with_site}
 
 -- ---- a bit
 
@@ -174,14 +174,6 @@ beyond_wide k mask n h l = (beyond_false mask n).1 (lt_of_lt_of_le h (pow_mono l
 pub inside_ones : (mask n : ℕ) → beyond mask n ≡ false → ones mask ≡ count_to n (bit mask)
 inside_ones mask n e = ones_count n mask ((beyond_false mask n).0 e)
 
--- PROOF is not given where no bit is "at N or above" and the ones are not "too few"
-pub proven_iff : (mask n needed : ℕ) → (unproven mask n needed ≡ false) ↔ ((mask < 2 ^ n) × (needed ≤ ones mask))
-unfolding unproven
-proven_iff mask n needed = (
-  λ e. ((beyond_false mask n).0 (or_left (beyond mask n) _ e), (reaches_iff mask needed).0 (not-false (reaches mask needed) (or_right (beyond mask n) _ e))),
-  λ p. rw ((beyond_false mask n).1 p.0, (reaches_iff mask needed).1 p.1),
-)
-
 -- the mask of a set of sites below n has none
 pub mask_inside : (n : ℕ) (p : ℕ → Bool) → beyond (mask_to n p) n ≡ false
 mask_inside n p = (beyond_false (mask_to n p) n).1 (mask_lt n p)
@@ -207,8 +199,8 @@ and_pow mask i =
     ap (bit_and mask) (sym (high_ones 1 i ∙ one-mul (2 ^ i))) ∙ and_high mask 1 i ∙ ap (λ (x : ℕ). x * 2 ^ i) (sym (bit_digit mask i))
 
 -- of o + a = m + x, where a, what the two have in common, is all of x or nothing
-or_old : (o a m x : ℕ) → o + a ≡ m + x → a ≡ 1 * x → m ≡ o
-or_old o a m x e h = omega arith
+or_left : (o a m x : ℕ) → o + a ≡ m + x → a ≡ 1 * x → m ≡ o
+or_left o a m x e h = omega arith
 
 or_sum : (o a m x : ℕ) → o + a ≡ m + x → a ≡ 0 * x → m + x ≡ o
 or_sum o a m x e h = omega arith
@@ -216,7 +208,7 @@ or_sum o a m x e h = omega arith
 pub with_or : (mask i : ℕ) → i < 16 → with_site mask i ≡ bit_or mask (2 ^ i)
 with_or mask i l =
     ⊎_elim
-    (λ e. with_old mask i e ∙ or_old _ _ mask (2 ^ i) (or_add_and mask (2 ^ i)) (and_pow mask i ∙ ap (λ (b : Bool). to_nat b * 2 ^ i) e))
+    (λ e. with_old mask i e ∙ or_left _ _ mask (2 ^ i) (or_add_and mask (2 ^ i)) (and_pow mask i ∙ ap (λ (b : Bool). to_nat b * 2 ^ i) e))
     (λ e. with_new mask i l e ∙ or_sum _ _ mask (2 ^ i) (or_add_and mask (2 ^ i)) (and_pow mask i ∙ ap (λ (b : Bool). to_nat b * 2 ^ i) e))
     (true_or_false (bit mask i))
 

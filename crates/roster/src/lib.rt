@@ -1,5 +1,7 @@
 // The roster: how many sites there are, how many of them may lie, and what follows from the two figures (validity, the quorum, the
 // leader of a view); the two 32-bit counts, views and ballots; and masks, sets of sites in 16 bits, in which proofs are counted.
+#![tactic(auto)]
+
 ghost use Rattle.std.specs.Prelude.{◌≡◌};
 ghost use Rattle.roster.specs.Roster.{valid_roster, quorum, weak_certificate, leader_of};
 ghost use Rattle.roster.specs.Counts as counts;

@@ -1,3 +1,3 @@
--- The table of document 01's sample histories, votes and example line, and why it holds.
+-- The table of document 01's sample histories and votes, and why it holds.
 pub mod Samples
 pub mod SamplesLaws

@@ -1,6 +1,6 @@
 -- The sample table holds: one test that is computed over all of it, and for each kind of line a law that the test is enough.
 use Rattle.std.specs.Prelude.{◌≡◌, refl, Bool, true, false, not, ◌&&◌, List, [], ◌∷◌, ℕ}
-use Rattle.std.proofs.Common.{sym, ap, ap₂, ◌∙◌, true≢false}
+use Rattle.std.proofs.Common.{sym, ap, ap₂, true≢false}
 use Rattle.std.proofs.Math.Option.{Option, none, some}
 use Rattle.std.proofs.lemmas.Bool.{not-true}
 use Rattle.std.specs.Int.Count.{ones, ones_in}
@@ -10,7 +10,7 @@ use Rattle.roster.specs.Mask.{unproven, bit, reaches, beyond}
 use Rattle.roster.specs.Roster.{valid_roster, quorum}
 use Rattle.command.specs.Command.{valid_argument, valid_command, all_valid, wrong, field, proposer, kind, serial, slot, argument, same_request, kinds_table, kinds_conflict, conflict}
 use Rattle.history.specs.History.{present, repeated, apart, free, least, without, ordered, canonical, equal, is_canonical, valid_history, improper, comes_off, extends}
-use Rattle.history.specs.Words.{limit, commands, padded, valid_stored}
+use Rattle.history.specs.Words.{commands, padded, valid_stored}
 use Rattle.history.specs.ExtensionLaws.{extends_sound, extends_refuted}
 use Rattle.history.specs.CanonicalLaws.{equal_true}
 use Rattle.merge.specs.Merge.{appended, merge}
@@ -22,12 +22,10 @@ use Rattle.refusal.specs.Rules.{judged}
 use Rattle.frame.specs.Hex.{digit, is_digit, value_of, all_digits, byte_of, number_from, digits_of, spell, numbers, all_fit, total}
 use Rattle.frame.specs.Kinds.{uses, is_kind, zero_unless, unused_zero}
 use Rattle.frame.specs.Format.{line_of, proper, all_zero, fits, writable, framed, frame_of, is_line, reading_of, malformed}
-use Rattle.frame.specs.FormatLaws.{frame_of_line}
-use Rattle.frame.specs.Example.{characters}
 use Rattle.content.specs.Content.{contradicts}
 use Rattle.learner.specs.Learner.{fresh, config, with_vote, supporters, claimed, claims, further, merging, step}
 use Rattle.learner.specs.Run.{run, outcomes}
-use Rattle.samples.specs.Samples.{Sample, order, extension, no_extension, merged, split, votes, text, four, answers, lines, Holds, samples, AllHold, end, line}
+use Rattle.samples.specs.Samples.{Sample, order, extension, no_extension, merged, split, votes, four, answers, Holds, samples, AllHold, end, line}
 
 -- whether a merge is m, and whether there is none
 is_found : Option (List ℕ) → List ℕ → Bool
@@ -60,8 +58,7 @@ test (extension h g) = extends h g
 test (no_extension h g) = not (extends h g)
 test (merged g h m) = not (repeated h) && is_found (merge g h) m
 test (split g h) = not (repeated h) && is_none (merge g h)
-test (votes vs ws m) = equal_all (answers (outcomes four fresh (lines vs))) ws && equal (commands (run four fresh (lines vs)).learned) m
-test (text v t) = equal (line_of v) (characters t) && (is_line limit (characters t) && writable v)
+test (votes ls ws m) = equal_all (answers (outcomes four fresh ls)) ws && equal (commands (run four fresh ls).learned) m
 
 found_some : (o : Option (List ℕ)) (m : List ℕ) → is_found o m ≡ true → o ≡ some m
 unfolding is_found
@@ -81,13 +78,8 @@ tested (extension h g) e = extends_sound h g e
 tested (no_extension h g) e = extends_refuted h g (not-true _ e)
 tested (merged g h m) e = merge_found g h (not-true _ (and_left (not (repeated h)) _ e)) (found_some (merge g h) m (and_right (not (repeated h)) _ e))
 tested (split g h) e = merge_none g h (not-true _ (and_left (not (repeated h)) _ e)) (none_none (merge g h) (and_right (not (repeated h)) _ e))
-tested (votes vs ws m) e =
-    let all = answers (outcomes four fresh (lines vs)) in
-    (equal_all_true all ws (and_left (equal_all all ws) _ e), equal_true (commands (run four fresh (lines vs)).learned) m (and_right (equal_all all ws) _ e))
-tested (text v t) e =
-    let same = equal_true (line_of v) (characters t) (and_left (equal (line_of v) (characters t)) _ e) in
-    let rest = and_right (equal (line_of v) (characters t)) _ e in
-    (same, and_left (is_line limit (characters t)) _ rest, ap frame_of (sym same) ∙ frame_of_line v (and_right (is_line limit (characters t)) _ rest))
+tested (votes ls ws m) e =
+    (equal_all_true (answers (outcomes four fresh ls)) ws (and_left (equal_all (answers (outcomes four fresh ls)) ws) _ e), equal_true (commands (run four fresh ls).learned) m (and_right (equal_all (answers (outcomes four fresh ls)) ws) _ e))
 
 all_tested : List Sample → Bool
 all_tested [] = true
@@ -98,17 +90,17 @@ unfolding all_tested
 each [] e = end
 each (s ∷ l) e = line (tested s (and_left (test s) _ e)) (each l (and_right (test s) _ e))
 
--- Document 01's sample histories, votes and whole example line are as it says.
+-- Document 01's sample histories and votes are as it says.
 pub samples_hold : AllHold samples
 unfolding
     all_tested test is_found is_none equal_all
     field proposer kind serial slot argument valid_argument valid_command all_valid same_request kinds_table kinds_conflict conflict
     present repeated apart free least without ordered canonical equal is_canonical valid_history comes_off extends padded valid_stored
-    appended merge answered answer.merged_within
+    appended merge answered answer.merged
     valid_roster quorum bit reaches beyond unproven ones ones_in count_to all_to
     in_range row stored_at empty_table valid_row valid_table
     judged
     digit is_digit value_of all_digits byte_of number_from digits_of spell numbers all_fit total
-    uses is_kind zero_unless unused_zero line_of proper all_zero fits writable framed frame_of is_line reading_of malformed characters
+    uses is_kind zero_unless unused_zero line_of proper all_zero fits writable framed frame_of is_line reading_of malformed
     config wrong improper contradicts with_vote supporters claimed claims further merging step run outcomes
 samples_hold = each samples refl

@@ -53,7 +53,7 @@ fn order(text: &[u8], h: &mut [u64]) {
 
 fn extension(text: &[u8], h: &[u64], g: &[u64]) {
     put(text);
-    if history::extends_within(h, g) {
+    if history::extends(h, g) {
         put(b"yes\n");
     } else {
         put(b"no\n");
@@ -62,7 +62,7 @@ fn extension(text: &[u8], h: &[u64], g: &[u64]) {
 
 fn merged(text: &[u8], g: &[u64], h: &[u64]) {
     put(text);
-    let m = merge::merge_within(words::LIMIT, g, h);
+    let m = merge::merge(words::LIMIT, g, h);
     if m.split {
         put(b"SPLIT\n");
         return;

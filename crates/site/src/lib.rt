@@ -1,11 +1,12 @@
 // A site: whether its roster, own number and lent buffer will do; the view-change record; and making and handing over the frame that it sends.
-ghost use Rattle.std.specs.Prelude.{◌≡◌};
-ghost use Rattle.frame.specs.Format.{message};
+ghost use Rattle.std.specs.Prelude.{◌≡◌, take};
+ghost use Rattle.words.specs.Sizes.{capacity};
 ghost use Rattle.site.specs.Site as spec;
 ghost use Rattle.site.specs.Reply as reply;
+ghost use Rattle.site.specs.Message as message;
 
 use frame::Heading;
-use roster::{Roster, View};
+use roster::{Ballot, Roster, View};
 
 // The view-change record, lent by the host.
 #[repr(C)]
@@ -49,13 +50,39 @@ pub fn seated(r: Roster, own: u8, room: usize) -> bool
     r.valid() & ((own < r.n) & (frame::LONGEST <= room))
 }
 
-// Writes the frame with this heading and these two lists of commands at the front of the buffer, if it is to be sent, and answers the length of its
-// line; 0 if not.
-pub fn send<'a>(sent: bool, heading: Heading, g: &'a [u64], h: &'a [u64], out: &mut [u8]) -> usize
-    ensures { reply.Handed (reply.sends_if sent (message heading g.now h.now)) result out.old out.new }
+// Writes the frame of these values, its lists cut to what there is room for, at the front of the buffer, if it is to be sent, and answers the length
+// of its line; 0 if not.
+pub fn send<'a>(
+    sent: bool,
+    kind: u8,
+    own: u8,
+    view: View,
+    ballot: Ballot,
+    proven_ballot: Ballot,
+    mask: u16,
+    g: &'a [u64],
+    h: &'a [u64],
+    out: &mut [u8],
+) -> usize
+    ensures { reply.Handed (reply.sends_if sent (message.message kind own view ballot proven_ballot mask (take capacity g.now) (take capacity h.now))) result out.old out.new }
 {
     if !sent {
         return 0;
     }
-    frame::write_from(heading, g, h, out)
+    let one = words::first(g, words::CAPACITY);
+    let two = words::first(h, words::CAPACITY);
+    let n = one.len() as u8;
+    let m = two.len() as u8;
+    let heading = Heading {
+        found: true,
+        kind,
+        sender: own,
+        view,
+        ballot,
+        proven_ballot,
+        mask,
+        n,
+        m,
+    };
+    frame::write_from(heading, one, two, out)
 }

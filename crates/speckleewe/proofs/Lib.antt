@@ -1,14 +1,10 @@
--- The walks of the entries over a lent record; `Lent` is the guide to these files.
+-- The walks of the entries over a lent record.
 mod Arguments
 mod Lent
 mod Entry
+mod WithBuffer
 mod Parts
-mod Fields
-mod FieldsLent
-mod FieldsLocals
-mod Lendable
-mod Lending
-mod InPlace
-mod InPlaceWithBuffer
-mod Records
 mod Replies
+mod LearnerInPlace
+mod LeaderInPlace
+mod AcceptorInPlace

@@ -1,65 +1,76 @@
--- What a call by a host gives: the answer with its number, what the lent record then holds, and every byte of the buffer.
+-- What a call by a host gives: the roles' outcomes with the number of the answer in its place, and every byte of the buffer. What a lent record holds
+-- when the call is over stands in the outcome beside the answer.
 use Rattle.std.specs.Prelude.{◌≡◌, List, ℕ}
 use Rattle.roster.specs.declared.Roster.{Roster}
 use Rattle.roster.specs.declared.View.{View}
-use Rattle.refusal.specs.declared.Answer.{Answer}
 use Rattle.refusal.specs.Refusal.{answer_number}
 use Rattle.site.specs.declared.ViewRecord.{ViewRecord}
-use Rattle.acceptor.specs.declared.State as accepting
-use Rattle.replica.specs.declared.Site.{Site}
-use Rattle.replica.specs.Calls.{Call, CallOutcome, to_acceptor, to_view_change, call}
+use Rattle.site.specs.Site as views
+use Rattle.acceptor.specs.declared.Outcome as accepting
+use Rattle.acceptor.specs.declared.Marks.{Marks}
+use Rattle.acceptor.specs.Acceptor as acceptor
+use Rattle.acceptor.specs.Parts.{state_of}
 use Rattle.leader.specs.declared.Outcome as leading
 use Rattle.leader.specs.declared.State as leading_state
 use Rattle.leader.specs.Leader as leader
-use Rattle.learner.specs.declared.Outcome as learning
 use Rattle.learner.specs.declared.State.{State}
 use Rattle.learner.specs.Learner as learner
+use Rattle.viewchange.specs.declared.Outcome as changing
 use Rattle.viewchange.specs.ViewChange as change
 use Rattle.speckleewe.specs.declared.LearnerReply.{LearnerReply}
 use Rattle.speckleewe.specs.declared.Opening.{Opening}
 use Rattle.speckleewe.specs.declared.Reply.{Reply}
+use Rattle.speckleewe.specs.declared.Site.{Site}
+use Rattle.speckleewe.specs.declared.ViewChangeOutcome.{ViewChangeOutcome}
 
--- what a call that may send leaves: the answer in numbers, and the record after it
-pub record ReplyAndRecord (R : Type 0) : Type 0 where
+-- what a call leaves: the answer in numbers and the record after it
+pub record Left (R : Type 0) : Type 0 where
   pub reply : Reply
   pub after : R
 
-abbrev pub replied : Answer → ℕ → Reply
-replied a sent = record { answer = answer_number a; sent = sent }
+-- ---- the view change
 
--- ---- a site: its calls are those of the call lists of demand 3
+-- a role's outcome with the answer's number; and an answer with the record that its call left
+abbrev pub view_change_outcome : changing.Outcome → ViewChangeOutcome
+view_change_outcome o = record { answer = answer_number o.answer; sent = o.sent; views = o.views }
 
--- what a call of the lists leaves, with the answer's number
-abbrev pub site_given : CallOutcome → ReplyAndRecord Site
-site_given l = record { reply = replied l.answer l.sent; after = l.kept }
+abbrev pub views_left : Reply → ViewRecord → ViewChangeOutcome
+views_left r v = record { answer = r.answer; sent = r.sent; views = v }
 
--- the site before, the roster, the own number and the call; the answer in numbers, the site and the buffer after
-abbrev pub site_call : Site → Roster → ℕ → Call → Reply → Site → List ℕ → Type 0
-site_call s r own c a t buffer = (record { reply = a; after = t } ≡ site_given (call r own s c)) × (buffer ≡ (call r own s c).output)
-
--- the acceptor: the site before, the roster, the own number, the line and the buffer before; the answer in numbers, the site and the buffer after
-abbrev pub acceptor_call : Site → Roster → ℕ → List ℕ → List ℕ → Reply → Site → List ℕ → Type 0
-acceptor_call s r own line out = site_call s r own (to_acceptor line out)
-
--- The view change, with the record in the site's place. The record is lent alone: this is the call of a site whatever acceptor is beside the record, and
--- the acceptor stays.
-abbrev pub view_change_call : ViewRecord → Roster → ℕ → List ℕ → List ℕ → Reply → ViewRecord → List ℕ → Type 0
-view_change_call v r own line out a t buffer =
-    (x : accepting.State)
-    → site_call (record { views = v; acceptor = x }) r own (to_view_change line out) a (record { views = t; acceptor = x }) buffer
+-- the record before, the roster, the own number, the line and the buffer before; the outcome and the buffer after
+abbrev pub view_change_call : ViewRecord → Roster → ℕ → List ℕ → List ℕ → ViewChangeOutcome → List ℕ → Type 0
+view_change_call v r own line out o buffer = (o ≡ view_change_outcome (change.returned r own v line out)) × (buffer ≡ change.output r own v line out)
 
 -- "The host's own suspicion enters as a SUSPICION from itself."
-abbrev pub suspicion_call : ViewRecord → Roster → ℕ → View → List ℕ → Reply → ViewRecord → List ℕ → Type 0
+abbrev pub suspicion_call : ViewRecord → Roster → ℕ → View → List ℕ → ViewChangeOutcome → List ℕ → Type 0
 suspicion_call v r own view = view_change_call v r own (change.own_suspicion own view)
+
+-- ---- a site's acceptor: the view-change record stays
+
+abbrev pub fresh_site : Site
+fresh_site = record { views = views.fresh; acceptor = acceptor.fresh }
+
+-- a site of its parts, in the record's order: the view-change record, the marks, and the counts and words of what is held, proven and verified
+abbrev pub site_of : ViewRecord → Marks → ℕ → List ℕ → ℕ → List ℕ → List ℕ → List ℕ → Site
+site_of v k heldCount held provenCount proven counts words = record { views = v; acceptor = state_of k held heldCount proven provenCount words counts }
+
+-- what the role's outcome leaves
+abbrev pub site_given : ViewRecord → accepting.Outcome → Left Site
+site_given v o = record { reply = record { answer = answer_number o.answer; sent = o.sent }; after = record { views = v; acceptor = o.state } }
+
+-- the site before, the roster, the own number, the line and the buffer before; the answer in numbers, the site and the buffer after
+abbrev pub acceptor_call : Site → Roster → ℕ → List ℕ → List ℕ → Reply → Site → List ℕ → Type 0
+acceptor_call s r own line out a t buffer =
+    (record { reply = a; after = t } ≡ site_given s.views (acceptor.returned r own s.views s.acceptor line out))
+    × (buffer ≡ acceptor.output r own s.views s.acceptor line out)
 
 -- ---- a leader: its step, and the opening of a ballot
 
-abbrev pub leader_given : leading.Outcome → ReplyAndRecord leading_state.State
-leader_given o = record { reply = replied o.answer o.sent; after = o.state }
+abbrev pub leader_given : leading.Outcome → Left leading_state.State
+leader_given o = record { reply = record { answer = answer_number o.answer; sent = o.sent }; after = o.state }
 
 abbrev pub leader_call : leading_state.State → Roster → ℕ → List ℕ → List ℕ → Reply → leading_state.State → List ℕ → Type 0
-leader_call s r own line out a t buffer =
-    (record { reply = a; after = t } ≡ leader_given (leader.returned r own s line out)) × (buffer ≡ leader.output r own s line out)
+leader_call s r own line out a t buffer = (record { reply = a; after = t } ≡ leader_given (leader.returned r own s line out)) × (buffer ≡ leader.output r own s line out)
 
 abbrev pub opening_call : leading_state.State → Roster → ℕ → Opening → List ℕ → Reply → leading_state.State → List ℕ → Type 0
 opening_call s r own p out a t buffer =
@@ -68,9 +79,8 @@ opening_call s r own p out a t buffer =
 
 -- ---- a learner
 
-abbrev pub learner_replied : learning.Outcome → LearnerReply
-learner_replied o = record { answer = answer_number o.answer; supporters = o.supporters }
-
 -- the state before, the roster and the line; the answer in numbers and the state after
 abbrev pub learner_call : State → Roster → List ℕ → LearnerReply → State → Type 0
-learner_call s r line a t = (a ≡ learner_replied (learner.step r s line)) × (t ≡ (learner.step r s line).state)
+learner_call s r line a t =
+    (a ≡ record { answer = answer_number (learner.step r s line).answer; supporters = (learner.step r s line).supporters })
+    × (t ≡ (learner.step r s line).state)

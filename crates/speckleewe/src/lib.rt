@@ -1,17 +1,16 @@
-// Everything that a C or Rust host calls. The host lends a role's record, and each call changes it in place: every number and every array of the record
-// is lent on, in the record's order, to a private function that calls the proved step. No lent record is read or stored whole, so no call writes a byte of
-// padding. A slice is passed as a pointer to its first byte and its length.
+// Everything that a C or Rust host calls. The host lends a role's record, and each call changes it in place: the parts of the record that are lists are
+// lent on to the proved step, and the few numbers beside them are copied and stored. The small view-change record is copied whole. A slice is passed as
+// a pointer to its first byte and its length.
 ghost use Rattle.std.specs.Prelude.{◌≡◌};
 ghost use Rattle.frame.specs.Layout.{longest};
 ghost use Rattle.leader.specs.Leader as leading;
+ghost use Rattle.leader.specs.Parts as leader_parts;
 ghost use Rattle.learner.specs.Learner as learning;
-ghost use Rattle.replica.specs.Calls.{start};
+ghost use Rattle.learner.specs.Parts as learner_parts;
 ghost use Rattle.site.specs.Site as fresh;
-ghost use Rattle.speckleewe.specs.Outcomes.{acceptor_call, leader_call, learner_call, opening_call, suspicion_call, view_change_call};
-ghost use Rattle.speckleewe.specs.Code.Parts.{leader_of, learner_of, site_of, views_of};
+ghost use Rattle.speckleewe.specs.Outcomes.{acceptor_call, view_change_call, fresh_site, leader_call, learner_call, opening_call, site_of, suspicion_call, view_change_outcome, views_left};
 
 use learner::State;
-use replica::Site;
 use roster::{Ballot, Roster, View};
 use site::ViewRecord;
 
@@ -31,12 +30,44 @@ pub struct LearnerReply {
     pub supporters: u8,
 }
 
+// What a site's acceptor is lent: the site's view-change record, which is also lent to the view change, and the acceptor's state.
+#[repr(C)]
+#[derive(Drop)]
+pub struct Site {
+    pub views: ViewRecord,
+    pub acceptor: acceptor::State,
+}
+
+// What a step of the view change gives: the answer's number, how many bytes of the buffer are to be sent, and the record after it.
+#[derive(Drop)]
+struct ViewChangeOutcome {
+    answer: u8,
+    sent: usize,
+    views: ViewRecord,
+}
+
+// What an acceptor's step in place gives: the answer's number, how many bytes of the buffer are to be sent, and the marks after it.
+#[derive(Drop)]
+struct SiteOutcome {
+    answer: u8,
+    sent: usize,
+    marks: acceptor::Marks,
+}
+
 // A ballot that a leader is to open, a classic one where `fast` is 0.
 #[repr(C)]
 #[derive(Drop)]
 pub struct Opening {
     pub ballot: Ballot,
     pub fast: u8,
+}
+
+// What a leader's call in place gives: the answer's number, how many bytes of the buffer are to be sent, and the marks after it.
+#[derive(Drop)]
+struct LeaderOutcome {
+    answer: u8,
+    sent: usize,
+    marks: leader::Marks,
 }
 
 // A fresh view-change record: view 0, no suspicion, no target.
@@ -50,9 +81,12 @@ pub extern "C" fn speckleewe_view_record_fresh() -> ViewRecord
 // A fresh site: a fresh record, and an acceptor with all 0 and empty.
 #[unsafe(no_mangle)]
 pub extern "C" fn speckleewe_site_fresh() -> Site
-    ensures { result ≡ start }
+    ensures { result ≡ fresh_site }
 {
-    Site::fresh()
+    Site {
+        views: ViewRecord::fresh(),
+        acceptor: acceptor::State::fresh(),
+    }
 }
 
 // A fresh leader: all 0 and empty.
@@ -79,35 +113,32 @@ pub extern "C" fn speckleewe_learner_fresh() -> State
     State::fresh()
 }
 
-// A step of the view change of site `own` on the parts of its record.
-fn view_change_in_parts<'p, 'a>(
+// The view change's outcome, with its answer's number.
+fn numbered(o: viewchange::Outcome) -> ViewChangeOutcome
+    ensures { result ≡ view_change_outcome o }
+{
+    let view_answer = o.answer;
+    let view_sent = o.sent;
+    let views_after = o.views;
+    ViewChangeOutcome {
+        answer: view_answer.number(),
+        sent: view_sent,
+        views: views_after,
+    }
+}
+
+// A step of the view change of site `own`, by value.
+fn view_change_by_value<'a>(
+    views: ViewRecord,
     roster: Roster,
     own: u8,
     line: &'a [u8],
     out: &'a mut [u8],
-    view: &'p mut u32,
-    suspicions: &'p mut u16,
-    target: &'p mut u32,
-    changes: &'p mut u16,
-) -> Reply
-    ensures { view_change_call (views_of view.old suspicions.old target.old changes.old) roster own line.now out.old result (views_of view.new suspicions.new target.new changes.new) out.new }
+) -> ViewChangeOutcome
+    ensures { view_change_call views roster own line.now out.old result out.new }
 {
-    let before = ViewRecord {
-        view: View(*view),
-        suspicions: *suspicions,
-        target: View(*target),
-        changes: *changes,
-    };
-    let changed = viewchange::step(roster, own, before, line, out);
-    *view = changed.views.view.0;
-    *suspicions = changed.views.suspicions;
-    *target = changed.views.target.0;
-    *changes = changed.views.changes;
-    let change_answer = changed.answer;
-    Reply {
-        answer: change_answer.number(),
-        sent: changed.sent,
-    }
+    let o = viewchange::step(roster, own, views, line, out);
+    numbered(o)
 }
 
 // A step of the view change of site `own` on the record that the host lends.
@@ -119,49 +150,29 @@ pub extern "C" fn speckleewe_view_change<'a>(
     line: &'a [u8],
     out: &'a mut [u8],
 ) -> Reply
-    ensures { view_change_call views.old roster own line.now out.old result views.new out.new }
+    ensures { view_change_call views.old roster own line.now out.old (views_left result views.new) out.new }
 {
-    view_change_in_parts(
-        roster,
-        own,
-        line,
-        out,
-        &mut views.view.0,
-        &mut views.suspicions,
-        &mut views.target.0,
-        &mut views.changes,
-    )
+    let before = *views;
+    let o = view_change_by_value(before, roster, own, line, out);
+    *views = o.views;
+    Reply {
+        answer: o.answer,
+        sent: o.sent,
+    }
 }
 
-// The suspicion of site `own` itself of a view, on the parts of its record.
-fn suspicion_in_parts<'p, 'a>(
+// The suspicion of site `own` itself of a view, by value.
+fn suspicion_by_value(
+    views: ViewRecord,
     roster: Roster,
     own: u8,
-    suspected: View,
-    out: &'a mut [u8],
-    view: &'p mut u32,
-    suspicions: &'p mut u16,
-    target: &'p mut u32,
-    changes: &'p mut u16,
-) -> Reply
-    ensures { suspicion_call (views_of view.old suspicions.old target.old changes.old) roster own suspected out.old result (views_of view.new suspicions.new target.new changes.new) out.new }
+    view: View,
+    out: &mut [u8],
+) -> ViewChangeOutcome
+    ensures { suspicion_call views roster own view out.old result out.new }
 {
-    let before = ViewRecord {
-        view: View(*view),
-        suspicions: *suspicions,
-        target: View(*target),
-        changes: *changes,
-    };
-    let raised = viewchange::suspicion(roster, own, before, suspected, out);
-    *view = raised.views.view.0;
-    *suspicions = raised.views.suspicions;
-    *target = raised.views.target.0;
-    *changes = raised.views.changes;
-    let suspicion_answer = raised.answer;
-    Reply {
-        answer: suspicion_answer.number(),
-        sent: raised.sent,
-    }
+    let o = viewchange::suspicion(roster, own, views, view, out);
+    numbered(o)
 }
 
 // The suspicion of site `own` itself of a view, on the record that the host lends.
@@ -173,58 +184,35 @@ pub extern "C" fn speckleewe_suspicion(
     view: View,
     out: &mut [u8],
 ) -> Reply
-    ensures { suspicion_call views.old roster own view out.old result views.new out.new }
+    ensures { suspicion_call views.old roster own view out.old (views_left result views.new) out.new }
 {
-    suspicion_in_parts(
-        roster,
-        own,
-        view,
-        out,
-        &mut views.view.0,
-        &mut views.suspicions,
-        &mut views.target.0,
-        &mut views.changes,
-    )
+    let before = *views;
+    let o = suspicion_by_value(before, roster, own, view, out);
+    *views = o.views;
+    Reply {
+        answer: o.answer,
+        sent: o.sent,
+    }
 }
 
-// A step of the acceptor of site `own` on the parts of its site.
+// A step of the acceptor of site `own` on the parts of its state, in the view of its view-change record.
 fn acceptor_in_parts<'p, 'a>(
-    roster: Roster,
-    own: u8,
-    line: &'a [u8],
-    out: &'a mut [u8],
-    view: &'p mut u32,
-    suspicions: &'p mut u16,
-    target: &'p mut u32,
-    changes: &'p mut u16,
-    ballot: &'p mut u32,
-    fast: &'p mut u8,
-    signed: &'p mut u8,
+    views: ViewRecord,
+    marks: acceptor::Marks,
     held_count: &'p mut u8,
     held: &'p mut [u64; 32],
     proven_count: &'p mut u8,
     proven: &'p mut [u64; 32],
-    proven_ballot: &'p mut u32,
-    certificate: &'p mut u16,
     counts: &'p mut [u8; 16],
     words: &'p mut [u64; 512],
-) -> Reply
-    ensures { acceptor_call (site_of view.old suspicions.old target.old changes.old ballot.old fast.old signed.old held_count.old held.old proven_count.old proven.old proven_ballot.old certificate.old counts.old words.old) roster own line.now out.old result (site_of view.new suspicions.new target.new changes.new ballot.new fast.new signed.new held_count.new held.new proven_count.new proven.new proven_ballot.new certificate.new counts.new words.new) out.new }
+    roster: Roster,
+    own: u8,
+    line: &'a [u8],
+    out: &'a mut [u8],
+) -> SiteOutcome
+    ensures { acceptor_call (site_of views marks held_count.old held.old proven_count.old proven.old counts.old words.old) roster own line.now out.old (record { answer = result.answer; sent = result.sent }) (site_of views result.marks held_count.new held.new proven_count.new proven.new counts.new words.new) out.new }
 {
-    let views = ViewRecord {
-        view: View(*view),
-        suspicions: *suspicions,
-        target: View(*target),
-        changes: *changes,
-    };
-    let marks = acceptor::Marks {
-        ballot: Ballot(*ballot),
-        fast: *fast,
-        signed: *signed,
-        proven_ballot: Ballot(*proven_ballot),
-        certificate: *certificate,
-    };
-    let accepted = acceptor::step_in_place(
+    let o = acceptor::step_in_place(
         roster,
         own,
         views,
@@ -238,15 +226,13 @@ fn acceptor_in_parts<'p, 'a>(
         line,
         out,
     );
-    *ballot = accepted.marks.ballot.0;
-    *fast = accepted.marks.fast;
-    *signed = accepted.marks.signed;
-    *proven_ballot = accepted.marks.proven_ballot.0;
-    *certificate = accepted.marks.certificate;
-    let acceptor_answer = accepted.answer;
-    Reply {
+    let acceptor_answer = o.answer;
+    let acceptor_sent = o.sent;
+    let acceptor_marks = o.marks;
+    SiteOutcome {
         answer: acceptor_answer.number(),
-        sent: accepted.sent,
+        sent: acceptor_sent,
+        marks: acceptor_marks,
     }
 }
 
@@ -261,55 +247,55 @@ pub extern "C" fn speckleewe_acceptor<'a>(
 ) -> Reply
     ensures { acceptor_call site.old roster own line.now out.old result site.new out.new }
 {
-    acceptor_in_parts(
-        roster,
-        own,
-        line,
-        out,
-        &mut site.views.view.0,
-        &mut site.views.suspicions,
-        &mut site.views.target.0,
-        &mut site.views.changes,
-        &mut site.acceptor.ballot.0,
-        &mut site.acceptor.fast,
-        &mut site.acceptor.signed,
+    let marks = acceptor::Marks {
+        ballot: site.acceptor.ballot,
+        fast: site.acceptor.fast,
+        signed: site.acceptor.signed,
+        proven_ballot: site.acceptor.proven_ballot,
+        certificate: site.acceptor.certificate,
+    };
+    let o = acceptor_in_parts(
+        site.views,
+        marks,
         &mut site.acceptor.held.count,
         &mut site.acceptor.held.words,
         &mut site.acceptor.proven.count,
         &mut site.acceptor.proven.words,
-        &mut site.acceptor.proven_ballot.0,
-        &mut site.acceptor.certificate,
         &mut site.acceptor.verified.counts,
         &mut site.acceptor.verified.words,
-    )
+        roster,
+        own,
+        line,
+        out,
+    );
+    site.acceptor.ballot = o.marks.ballot;
+    site.acceptor.fast = o.marks.fast;
+    site.acceptor.signed = o.marks.signed;
+    site.acceptor.proven_ballot = o.marks.proven_ballot;
+    site.acceptor.certificate = o.marks.certificate;
+    Reply {
+        answer: o.answer,
+        sent: o.sent,
+    }
 }
 
 // A step of the leader of site `own` on the parts of its state.
 fn leader_in_parts<'p, 'a>(
-    roster: Roster,
-    own: u8,
-    line: &'a [u8],
-    out: &'a mut [u8],
-    view: &'p mut u32,
-    ballot: &'p mut u32,
-    classic: &'p mut u8,
+    marks: leader::Marks,
     count: &'p mut u8,
     pending: &'p mut [u64; 32],
-    reported: &'p mut u16,
     proven_counts: &'p mut [u8; 16],
     proven: &'p mut [u64; 512],
     held_counts: &'p mut [u8; 16],
     held: &'p mut [u64; 512],
-) -> Reply
-    ensures { leader_call (leader_of view.old ballot.old classic.old count.old pending.old reported.old proven_counts.old proven.old held_counts.old held.old) roster own line.now out.old result (leader_of view.new ballot.new classic.new count.new pending.new reported.new proven_counts.new proven.new held_counts.new held.new) out.new }
+    roster: Roster,
+    own: u8,
+    line: &'a [u8],
+    out: &'a mut [u8],
+) -> LeaderOutcome
+    ensures { leader_call (leader_parts.state_of marks pending.old count.old proven.old proven_counts.old held.old held_counts.old) roster own line.now out.old (record { answer = result.answer; sent = result.sent }) (leader_parts.state_of result.marks pending.new count.new proven.new proven_counts.new held.new held_counts.new) out.new }
 {
-    let marks = leader::Marks {
-        view: View(*view),
-        ballot: Ballot(*ballot),
-        classic: *classic,
-        reported: *reported,
-    };
-    let led = leader::step_in_place(
+    let o = leader::step_in_place(
         roster,
         own,
         marks,
@@ -322,14 +308,13 @@ fn leader_in_parts<'p, 'a>(
         line,
         out,
     );
-    *view = led.marks.view.0;
-    *ballot = led.marks.ballot.0;
-    *classic = led.marks.classic;
-    *reported = led.marks.reported;
-    let leader_answer = led.answer;
-    Reply {
+    let leader_answer = o.answer;
+    let leader_sent = o.sent;
+    let leader_marks = o.marks;
+    LeaderOutcome {
         answer: leader_answer.number(),
-        sent: led.sent,
+        sent: leader_sent,
+        marks: leader_marks,
     }
 }
 
@@ -344,50 +329,53 @@ pub extern "C" fn speckleewe_leader<'a>(
 ) -> Reply
     ensures { leader_call state.old roster own line.now out.old result state.new out.new }
 {
-    leader_in_parts(
-        roster,
-        own,
-        line,
-        out,
-        &mut state.view.0,
-        &mut state.ballot.0,
-        &mut state.classic,
+    let marks = leader::Marks {
+        view: state.view,
+        ballot: state.ballot,
+        classic: state.classic,
+        reported: state.reported,
+    };
+    let o = leader_in_parts(
+        marks,
         &mut state.pending.count,
         &mut state.pending.words,
-        &mut state.reported,
         &mut state.proven.counts,
         &mut state.proven.words,
         &mut state.held.counts,
         &mut state.held.words,
-    )
+        roster,
+        own,
+        line,
+        out,
+    );
+    state.view = o.marks.view;
+    state.ballot = o.marks.ballot;
+    state.classic = o.marks.classic;
+    state.reported = o.marks.reported;
+    Reply {
+        answer: o.answer,
+        sent: o.sent,
+    }
 }
 
 // The opening of a ballot by the leader of site `own` on the parts of its state.
 fn opening_in_parts<'p, 'a>(
-    roster: Roster,
-    own: u8,
-    opening: Opening,
-    out: &'a mut [u8],
-    view: &'p mut u32,
-    ballot: &'p mut u32,
-    classic: &'p mut u8,
+    marks: leader::Marks,
     count: &'p mut u8,
     pending: &'p mut [u64; 32],
-    reported: &'p mut u16,
     proven_counts: &'p mut [u8; 16],
     proven: &'p mut [u64; 512],
     held_counts: &'p mut [u8; 16],
     held: &'p mut [u64; 512],
-) -> Reply
-    ensures { opening_call (leader_of view.old ballot.old classic.old count.old pending.old reported.old proven_counts.old proven.old held_counts.old held.old) roster own opening out.old result (leader_of view.new ballot.new classic.new count.new pending.new reported.new proven_counts.new proven.new held_counts.new held.new) out.new }
+    roster: Roster,
+    own: u8,
+    opening: Opening,
+    out: &'a mut [u8],
+) -> LeaderOutcome
+    ensures { opening_call (leader_parts.state_of marks pending.old count.old proven.old proven_counts.old held.old held_counts.old) roster own opening out.old (record { answer = result.answer; sent = result.sent }) (leader_parts.state_of result.marks pending.new count.new proven.new proven_counts.new held.new held_counts.new) out.new }
 {
-    let marks = leader::Marks {
-        view: View(*view),
-        ballot: Ballot(*ballot),
-        classic: *classic,
-        reported: *reported,
-    };
-    let opened = leader::open_in_place(
+    let ballot = opening.ballot;
+    let o = leader::open_in_place(
         roster,
         own,
         marks,
@@ -397,18 +385,17 @@ fn opening_in_parts<'p, 'a>(
         proven_counts,
         held,
         held_counts,
-        opening.ballot,
+        ballot,
         opening.fast,
         out,
     );
-    *view = opened.marks.view.0;
-    *ballot = opened.marks.ballot.0;
-    *classic = opened.marks.classic;
-    *reported = opened.marks.reported;
-    let opening_answer = opened.answer;
-    Reply {
+    let opening_answer = o.answer;
+    let opening_sent = o.sent;
+    let opening_marks = o.marks;
+    LeaderOutcome {
         answer: opening_answer.number(),
-        sent: opened.sent,
+        sent: opening_sent,
+        marks: opening_marks,
     }
 }
 
@@ -423,34 +410,45 @@ pub extern "C" fn speckleewe_open_ballot<'a>(
 ) -> Reply
     ensures { opening_call state.old roster own opening out.old result state.new out.new }
 {
-    opening_in_parts(
-        roster,
-        own,
-        opening,
-        out,
-        &mut state.view.0,
-        &mut state.ballot.0,
-        &mut state.classic,
+    let marks = leader::Marks {
+        view: state.view,
+        ballot: state.ballot,
+        classic: state.classic,
+        reported: state.reported,
+    };
+    let o = opening_in_parts(
+        marks,
         &mut state.pending.count,
         &mut state.pending.words,
-        &mut state.reported,
         &mut state.proven.counts,
         &mut state.proven.words,
         &mut state.held.counts,
         &mut state.held.words,
-    )
+        roster,
+        own,
+        opening,
+        out,
+    );
+    state.view = o.marks.view;
+    state.ballot = o.marks.ballot;
+    state.classic = o.marks.classic;
+    state.reported = o.marks.reported;
+    Reply {
+        answer: o.answer,
+        sent: o.sent,
+    }
 }
 
 // A step of a learner on the parts of its state.
 fn learner_in_parts<'p, 'a>(
-    roster: Roster,
-    line: &'a [u8],
     counts: &'p mut [u8; 16],
     words: &'p mut [u64; 512],
     count: &'p mut u8,
     learned: &'p mut [u64; 32],
+    roster: Roster,
+    line: &'a [u8],
 ) -> LearnerReply
-    ensures { learner_call (learner_of counts.old words.old count.old learned.old) roster line.now result (learner_of counts.new words.new count.new learned.new) }
+    ensures { learner_call (learner_parts.state_of words.old counts.old learned.old count.old) roster line.now result (learner_parts.state_of words.new counts.new learned.new count.new) }
 {
     let o = learner::step_in_place(roster, words, counts, learned, count, line);
     let learner_answer = o.answer;
@@ -466,11 +464,11 @@ pub extern "C" fn speckleewe_learner(state: &mut State, roster: Roster, line: &[
     ensures { learner_call state.old roster line.now result state.new }
 {
     learner_in_parts(
-        roster,
-        line,
         &mut state.entries.counts,
         &mut state.entries.words,
         &mut state.learned.count,
         &mut state.learned.words,
+        roster,
+        line,
     )
 }

@@ -8,20 +8,29 @@ use Rattle.roster.specs.Counts.{same_view, later_view, zero_view, last_view}
 use Rattle.roster.specs.Mask.{reaches, unproven, with_site}
 use Rattle.refusal.specs.declared.Refusal.TheVariants.{Config, Form, Sender, Stale, Proof, Full}
 use Rattle.refusal.specs.Rules.{Rule, ◌gives◌, judged}
-use Rattle.frame.specs.declared.Heading.{Heading}
 use Rattle.frame.specs.declared.Frame.{Frame}
-use Rattle.frame.specs.Kinds as kinds
-use Rattle.frame.specs.Format.{line_of, reading_of, malformed, message}
+use Rattle.frame.specs.Format.{line_of, reading_of, malformed}
 use Rattle.site.specs.declared.ViewRecord.{ViewRecord}
 use Rattle.site.specs.Site.{seated, valid_record}
+use Rattle.site.specs.Message.{message}
 use Rattle.site.specs.Reply.{silent, sends, Reply, refuse, accept, length_sent, buffer}
 use Rattle.viewchange.specs.declared.Outcome.{Outcome}
 
 -- ---- the frames taken and sent
 
--- the kinds that are taken
+-- their kinds
+abbrev pub suspicion_kind : ℕ
+suspicion_kind = 8
+
+abbrev pub change_kind : ℕ
+change_kind = 9
+
+abbrev pub leader_kind : ℕ
+leader_kind = 10
+
+-- SUSPICION and VIEWCHANGE are taken: a set of kinds, bits 8 and 9
 abbrev pub taken : ℕ
-taken = kinds.set_of (kinds.SUSPICION ∷ kinds.VIEWCHANGE ∷ [])
+taken = 768
 
 pub data Kind : Type 0 where
   SUSPICION : Kind
@@ -29,16 +38,15 @@ pub data Kind : Type 0 where
 
 -- the kind of a number of `taken`
 abbrev pub kind_of : ℕ → Kind
-kind_of k = cond (eqb k kinds.SUSPICION) SUSPICION VIEWCHANGE
+kind_of k = cond (eqb k suspicion_kind) SUSPICION VIEWCHANGE
 
--- the heading of the frame that a line holds; there are no commands in it
-abbrev pub received : List ℕ → Heading
-received line = (reading_of limit line taken).frame.heading
+-- the frame that a line holds
+abbrev pub received : List ℕ → Frame
+received line = (reading_of limit line taken).frame
 
 -- a frame of this kind from `own` for a view, with a mask and no commands
 abbrev pub notice : ℕ → ℕ → View → ℕ → Frame
-notice kind own view mask =
-    message (record { kind = kind; sender = own; view = view; ballot = record { 0 = 0 }; proven_ballot = record { 0 = 0 }; mask = mask }) [] []
+notice kind own view mask = message kind own view (record { 0 = 0 }) (record { 0 = 0 }) mask [] []
 
 -- ---- the refusals: "Checks run in this order; the first that applies is given."
 
@@ -51,8 +59,8 @@ abbrev pub form : List ℕ → Bool
 form line = malformed limit line taken
 
 -- SENDER: sender ≥ N
-abbrev pub unknown : Roster → ℕ → Bool
-unknown r site = leb r.n site
+abbrev pub sender : Roster → ℕ → Bool
+sender r site = leb r.n site
 
 -- the suspicions with that of a site
 unfoldable pub suspected : ViewRecord → ℕ → ℕ
@@ -69,7 +77,7 @@ full r v site = last_view v.view && sets r v site
 -- SUSPICION of a view from a site. STALE: "SUSPICION needs the current view"
 abbrev pub suspicion_rules : Roster → ViewRecord → ℕ → View → List Rule
 suspicion_rules r v site view =
-    unknown r site gives Sender ∷
+    sender r site gives Sender ∷
     not (same_view view v.view) gives Stale ∷
     full r v site gives Full ∷ []
 
@@ -77,12 +85,12 @@ suspicion_rules r v site view =
 -- the target"; PROOF: "and f+1 ones"
 abbrev pub change_rules : Roster → ViewRecord → ℕ → View → ℕ → List Rule
 change_rules r v site view mask =
-    unknown r site gives Sender ∷
+    sender r site gives Sender ∷
     (not (later_view view v.view) || later_view v.target view) gives Stale ∷
     unproven mask r.n (weak_certificate r) gives Proof ∷ []
 
 -- the checks of a frame of a kind, and all checks of a line
-abbrev pub frame_rules : Kind → Roster → ViewRecord → Heading → List Rule
+abbrev pub frame_rules : Kind → Roster → ViewRecord → Frame → List Rule
 frame_rules SUSPICION r v m = suspicion_rules r v m.sender m.view
 frame_rules VIEWCHANGE r v m = change_rules r v m.sender m.view m.mask
 
@@ -96,16 +104,16 @@ rules r own room v line =
 abbrev pub noted : ViewRecord → ℕ → ViewRecord
 noted v site = record { view = v.view; suspicions = suspected v site; target = v.target; changes = v.changes }
 
-abbrev pub next : View → View
-next view = record { 0 = view.0 + 1 }
+abbrev pub next_view : ViewRecord → View
+next_view v = record { 0 = v.view.0 + 1 }
 
 abbrev pub targeted : ℕ → ViewRecord → ℕ → ViewRecord
-targeted own v site = record { view = v.view; suspicions = suspected v site; target = next v.view; changes = with_site 0 own }
+targeted own v site = record { view = v.view; suspicions = suspected v site; target = next_view v; changes = with_site 0 own }
 
 -- a SUSPICION: "At f+1 ones or more, if no target is set (0), target is view+1 with its own bit, and VIEWCHANGE goes out with the suspicion mask."
 unfoldable pub suspicion : Roster → ℕ → ViewRecord → ℕ → Reply ViewRecord
 suspicion r own v site =
-    cond (sets r v site) (accept (targeted own v site) (sends (notice kinds.VIEWCHANGE own (next v.view) (suspected v site))))
+    cond (sets r v site) (accept (targeted own v site) (sends (notice change_kind own (next_view v) (suspected v site))))
     (accept (noted v site) silent)
 
 -- the target mask with a site's bit
@@ -124,17 +132,17 @@ moved v = record { view = v.target; suspicions = 0; target = record { 0 = 0 }; c
 
 -- a VIEWCHANGE for a new target: "A new target restarts the mask with sender and itself and sends its own VIEWCHANGE with the frame's mask"
 abbrev pub restart : ℕ → ViewRecord → ℕ → View → ℕ → Reply ViewRecord
-restart own v site view mask = accept (restarted own v site view) (sends (notice kinds.VIEWCHANGE own view mask))
+restart own v site view mask = accept (restarted own v site view) (sends (notice change_kind own view mask))
 
 -- for the target that is set: "an equal target adds the sender. At N-f ones or more the view becomes the target, suspicions and target clear,
 -- and LEADER goes to view mod N, with the target mask."
 unfoldable pub join : Roster → ℕ → ViewRecord → ℕ → Reply ViewRecord
 join r own v site =
-    cond (reaches (changed v site) (quorum r)) (accept (moved v) (sends (notice kinds.LEADER own v.target (changed v site))))
+    cond (reaches (changed v site) (quorum r)) (accept (moved v) (sends (notice leader_kind own v.target (changed v site))))
     (accept (joined v site) silent)
 
 -- what a frame of a kind that no check refuses gives
-abbrev pub accepted : Kind → Roster → ℕ → ViewRecord → Heading → Reply ViewRecord
+abbrev pub accepted : Kind → Roster → ℕ → ViewRecord → Frame → Reply ViewRecord
 accepted SUSPICION r own v m = suspicion r own v m.sender
 accepted VIEWCHANGE r own v m = cond (same_view m.view v.target) (join r own v m.sender) (restart own v m.sender m.view m.mask)
 
@@ -147,7 +155,7 @@ step r own room v line =
 
 -- "The host's own suspicion enters as a SUSPICION from itself": the line of that frame, of a view
 abbrev pub own_suspicion : ℕ → View → List ℕ
-own_suspicion own view = line_of (notice kinds.SUSPICION own view 0)
+own_suspicion own view = line_of (notice suspicion_kind own view 0)
 
 -- what it returns: the answer, how many bytes of the buffer are to be sent, and the record
 abbrev pub outcome : Reply ViewRecord → List ℕ → Outcome

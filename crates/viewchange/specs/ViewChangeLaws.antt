@@ -1,13 +1,13 @@
 -- One step of view change: its outcome, the frames that it sends, and what the record keeps.
-use Rattle.std.specs.Prelude.{◌≡◌, ◌⊎◌, Bool, true, false, not, ◌&&◌, ◌||◌, List, ◌∷◌, ℕ, ◌^◌, ◌≤◌, ◌<◌, ◌+◌, eqb, length}
-use Rattle.std.proofs.Math.Path.{refl}
+use Rattle.std.specs.Prelude.{◌≡◌, refl, ◌⊎◌, Bool, true, false, not, ◌&&◌, ◌||◌, List, ◌∷◌, ℕ, ◌^◌, ◌≤◌, ◌<◌, ◌+◌, eqb, length}
 use Rattle.std.proofs.Common.{sym, ap, ◌∙◌, subst, inl, inr, ⊎_elim, le_refl, le_of_lt, arith, lit<}
 use Rattle.std.specs.Bool.{beq}
 use Rattle.std.proofs.Math.Bool.{and-true}
-use borrow.Author.Tests.{leb-false, ltb-true, lt-leb, eqb-true, ne_eqb, not-false}
+use borrow.Author.Tests.{leb-false, ltb-true, lt-leb, lt-ltb, eqb-true, ne_eqb, not-false}
 use Rattle.std.specs.Int.Count.{ones, ones_in}
-use Rattle.words.specs.Sizes.{limit, capacity}
+use Rattle.words.specs.Sizes.{limit}
 use Rattle.basics.specs.Bools.{lt_or_le, true_or_false, and_left, and_right, or_left, beq_true, every_below}
+use Rattle.words.specs.Words.{padded}
 use Rattle.roster.specs.declared.Roster.{Roster}
 use Rattle.roster.specs.declared.View.{View}
 use Rattle.roster.specs.Roster.{valid_roster, quorum}
@@ -22,20 +22,22 @@ use Rattle.refusal.specs.declared.Refusal.TheVariants.{Config, Form, Sender, Sta
 use Rattle.refusal.specs.Rules.{◌gives◌}
 use Rattle.refusal.specs.Order.{in_order, follows}
 use Rattle.refusal.specs.JudgedLaws.{GivenFirst, NoneHolds, pass, Judgement, refused, accepts, judgement, test_of, no_test}
-use Rattle.frame.specs.declared.Heading.{Heading}
 use Rattle.frame.specs.declared.Frame.{Frame}
-use Rattle.frame.specs.Kinds as kinds
+use Rattle.frame.specs.Hex.{all_fit}
 use Rattle.frame.specs.Kinds.{uses, is_kind, unused_zero, zero_unless}
 use Rattle.frame.specs.BareLaws.{bare_kind, bare_kinds}
-use Rattle.frame.specs.Format.{frame_of, reading_of, malformed, proper, writable}
+use Rattle.frame.specs.Format.{frame_of, reading_of, malformed, proper, all_zero, fits, writable}
 use Rattle.frame.specs.FormatLaws.{frame_of_line, line_is_line, reading_line, found_taken, found_frame}
 use Rattle.site.specs.declared.ViewRecord.{ViewRecord}
 use Rattle.site.specs.Site.{seated, valid_record, fresh}
 use Rattle.site.specs.SiteLaws.{Seated, seated_is, Inside, valid_inside, inside_valid, fresh_inside}
-use Rattle.site.specs.MessageLaws.{read_view_fits, read_mask_fits, bare_writable}
+use Rattle.site.specs.MessageLaws.{read_view_fits, read_mask_fits}
 use Rattle.site.specs.Reply.{silent, sends, Reply, refuse, accept}
 use Rattle.site.specs.ReplyLaws.{silent_sends, sends_same, Sent, sent_line}
 use Rattle.viewchange.specs.ViewChange.{
+  suspicion_kind,
+  change_kind,
+  leader_kind,
   taken,
   Kind,
   SUSPICION,
@@ -51,7 +53,7 @@ use Rattle.viewchange.specs.ViewChange.{
   frame_rules,
   rules,
   noted,
-  next,
+  next_view,
   targeted,
   suspicion,
   changed,
@@ -114,18 +116,18 @@ configured_is r own room v e =
     }
 
 -- SUSPICION and VIEWCHANGE are taken, and no other kind
-only_two : all_to 10 (λ k. beq (bit taken k) (eqb k kinds.SUSPICION || eqb k kinds.VIEWCHANGE)) ≡ true
+only_two : all_to 10 (λ k. beq (bit taken k) (eqb k suspicion_kind || eqb k change_kind)) ≡ true
 unfolding all_to bit
 only_two = refl
 
-pub taken_is : (k : ℕ) → bit taken k ≡ (eqb k kinds.SUSPICION || eqb k kinds.VIEWCHANGE)
+pub taken_is : (k : ℕ) → bit taken k ≡ (eqb k suspicion_kind || eqb k change_kind)
 taken_is k =
     ⊎_elim
     (λ p.
-    beq_true (bit taken k) (eqb k kinds.SUSPICION || eqb k kinds.VIEWCHANGE)
-    (all_each 10 (λ i. beq (bit taken i) (eqb i kinds.SUSPICION || eqb i kinds.VIEWCHANGE)) only_two k p))
+    beq_true (bit taken k) (eqb k suspicion_kind || eqb k change_kind)
+    (all_each 10 (λ i. beq (bit taken i) (eqb i suspicion_kind || eqb i change_kind)) only_two k p))
     (λ (p : 10 ≤ k).
-    bit_out taken 10 k (lit< tt) p ∙ sym (rw (ne_eqb k kinds.SUSPICION (λ e. omega arith), ne_eqb k kinds.VIEWCHANGE (λ e. omega arith))))
+    bit_out taken 10 k (lit< tt) p ∙ sym (rw (ne_eqb k suspicion_kind (λ e. omega arith), ne_eqb k change_kind (λ e. omega arith))))
     (lt_or_le k 10)
 
 -- neither uses n or m
@@ -134,27 +136,27 @@ unfolding bare_kinds bare_kind every_below bit uses
 bare_taken = refl
 
 -- so a frame that FORM lets pass is a VIEWCHANGE if it is no SUSPICION
-pub received_change : (line : List ℕ) → form line ≡ false → eqb (received line).kind kinds.SUSPICION ≡ false → (received line).kind ≡ kinds.VIEWCHANGE
+pub received_change : (line : List ℕ) → form line ≡ false → eqb (received line).kind suspicion_kind ≡ false → (received line).kind ≡ change_kind
 unfolding malformed
 received_change line e p =
     let found = not-false (reading_of limit line taken).found e in
-    let either = sym (taken_is (frame_of line).heading.kind) ∙ found_taken limit line taken found in
-    eqb-true (received line).kind kinds.VIEWCHANGE
-    (rw p at (subst (λ (m : Frame). (eqb m.heading.kind kinds.SUSPICION || eqb m.heading.kind kinds.VIEWCHANGE) ≡ true) (sym (found_frame limit line taken found)) either))
+    let either = sym (taken_is (frame_of line).kind) ∙ found_taken limit line taken found in
+    eqb-true (received line).kind change_kind
+    (rw p at (subst (λ (m : Frame). (eqb m.kind suspicion_kind || eqb m.kind change_kind) ≡ true) (sym (found_frame limit line taken found)) either))
 
 -- what an accepted frame does: a SUSPICION is noted, or sets the target; a VIEWCHANGE restarts the target, joins it, or moves to it
-pub data Effect (r : Roster) (own : ℕ) (v : ViewRecord) (m : Heading) : Kind → Reply ViewRecord → Type 0 where
+pub data Effect (r : Roster) (own : ℕ) (v : ViewRecord) (m : Frame) : Kind → Reply ViewRecord → Type 0 where
   notes : Effect r own v m SUSPICION (accept (noted v m.sender) silent)
   targets : sets r v m.sender ≡ true
       → Effect r own v m SUSPICION
-      (accept (targeted own v m.sender) (sends (notice kinds.VIEWCHANGE own (next v.view) (suspected v m.sender))))
+      (accept (targeted own v m.sender) (sends (notice change_kind own (next_view v) (suspected v m.sender))))
   restarts : Effect r own v m VIEWCHANGE (restart own v m.sender m.view m.mask)
   joins : same_view m.view v.target ≡ true → reaches (changed v m.sender) (quorum r) ≡ false
       → Effect r own v m VIEWCHANGE (accept (joined v m.sender) silent)
   moves : same_view m.view v.target ≡ true → reaches (changed v m.sender) (quorum r) ≡ true
-      → Effect r own v m VIEWCHANGE (accept (moved v) (sends (notice kinds.LEADER own v.target (changed v m.sender))))
+      → Effect r own v m VIEWCHANGE (accept (moved v) (sends (notice leader_kind own v.target (changed v m.sender))))
 
-pub effect : (k : Kind) (r : Roster) (own : ℕ) (v : ViewRecord) (m : Heading) → Effect r own v m k (accepted k r own v m)
+pub effect : (k : Kind) (r : Roster) (own : ℕ) (v : ViewRecord) (m : Frame) → Effect r own v m k (accepted k r own v m)
 unfolding suspicion join
 effect SUSPICION r own v m = go (sets r v m.sender) refl
   where
@@ -174,9 +176,9 @@ effect VIEWCHANGE r own v m = go (same_view m.view v.target) (reaches (changed v
 -- what holds of the three frames that an accepted frame may send holds of each frame that a step sends
 module _ {r : Roster} {own room : ℕ} {v : ViewRecord} {line : List ℕ} (P : Frame → Type 0)
     (on-target : Accepts r own room v line → NoneHolds (frame_rules SUSPICION r v (received line)) → sets r v (received line).sender ≡ true
-    → P (notice kinds.VIEWCHANGE own (next v.view) (suspected v (received line).sender)))
-    (on_restart : Accepts r own room v line → P (notice kinds.VIEWCHANGE own (received line).view (received line).mask))
-    (on-move : Accepts r own room v line → P (notice kinds.LEADER own v.target (changed v (received line).sender))) where
+    → P (notice change_kind own (next_view v) (suspected v (received line).sender)))
+    (on_restart : Accepts r own room v line → P (notice change_kind own (received line).view (received line).mask))
+    (on-move : Accepts r own room v line → P (notice leader_kind own v.target (changed v (received line).sender))) where
   effect_sends : Accepts r own room v line → {k : Kind} → NoneHolds (frame_rules k r v (received line)) → {o : Reply ViewRecord}
       → Effect r own v (received line) k o → {m : Frame} → o.sending ≡ sends m → P m
   effect_sends a n notes h = absurd (silent_sends h)
@@ -191,8 +193,8 @@ module _ {r : Roster} {own room : ℕ} {v : ViewRecord} {line : List ℕ} (P : F
 
 -- a VIEWCHANGE or LEADER from `own`
 pub record Notice (own : ℕ) (m : Frame) : Type 0 where
-  pub kind : (m.heading.kind ≡ kinds.VIEWCHANGE) ⊎ (m.heading.kind ≡ kinds.LEADER)
-  pub sender : m.heading.sender ≡ own
+  pub kind : (m.kind ≡ change_kind) ⊎ (m.kind ≡ leader_kind)
+  pub sender : m.sender ≡ own
 
 -- each frame sent is one, and so of no kind that an acceptor sends
 pub sends_kind : (r : Roster) (own room : ℕ) (v : ViewRecord) (line : List ℕ) {m : Frame} → (step r own room v line).sending ≡ sends m → Notice own m
@@ -208,47 +210,40 @@ pub record Fits (own : ℕ) (v : ViewRecord) : Type 0 where
   pub suspicions_fit : v.suspicions < 2 ^ 16
   pub changes_fit : v.changes < 2 ^ 16
 
--- a notice of such numbers has a line, if its kind uses no other
+-- a notice of such numbers has a line
 module _ (own : ℕ) (view : View) (mask : ℕ) (a : own < 256) (b : view.0 < 2 ^ 32) (c : mask < 2 ^ 16) where
-  notice_writable : (kind : ℕ) → kind < 256 → proper capacity (notice kind own view mask) ≡ true → writable (notice kind own view mask) ≡ true
-  notice_writable kind k p =
-      bare_writable _ (record { kind = k; sender = a; view = b; ballot = lit< tt; proven_ballot = lit< tt; mask = c }) p
+  change_writable : writable (notice change_kind own view mask) ≡ true
+  unfolding padded writable proper is_kind uses unused_zero zero_unless all_zero fits all_fit
+  change_writable = rw (lt-ltb own 256 a, lt-ltb view.0 (2 ^ 32) b, lt-ltb mask (2 ^ 16) c)
 
-  change_writable : writable (notice kinds.VIEWCHANGE own view mask) ≡ true
-  unfolding proper is_kind uses unused_zero zero_unless
-  change_writable = notice_writable kinds.VIEWCHANGE (lit< tt) refl
-
-  leader_writable : writable (notice kinds.LEADER own view mask) ≡ true
-  unfolding proper is_kind uses unused_zero zero_unless
-  leader_writable = notice_writable kinds.LEADER (lit< tt) refl
+  leader_writable : writable (notice leader_kind own view mask) ≡ true
+  unfolding padded writable proper is_kind uses unused_zero zero_unless all_zero fits all_fit
+  leader_writable = rw (lt-ltb own 256 a, lt-ltb view.0 (2 ^ 32) b, lt-ltb mask (2 ^ 16) c)
 
 -- so has the host's own suspicion, and its line is read as that SUSPICION
 module _ (own : ℕ) (view : View) (a : own < 256) (b : view.0 < 2 ^ 32) where
   abbrev own_frame : Frame
-  own_frame = notice kinds.SUSPICION own view 0
+  own_frame = notice suspicion_kind own view 0
 
   own_writable : writable own_frame ≡ true
-  unfolding proper is_kind uses unused_zero zero_unless
-  own_writable = notice_writable own view 0 a b (lit< tt) kinds.SUSPICION (lit< tt) refl
+  unfolding padded writable proper is_kind uses unused_zero zero_unless all_zero fits all_fit
+  own_writable = rw (lt-ltb own 256 a, lt-ltb view.0 (2 ^ 32) b)
 
-  own_taken : bit taken own_frame.heading.kind ≡ true
-  own_taken = taken_is kinds.SUSPICION
+  own_taken : bit taken own_frame.kind ≡ true
+  own_taken = taken_is suspicion_kind
 
   pub own_read : reading_of limit (own_suspicion own view) taken ≡ record { found = true; frame = own_frame }
   own_read =
       reading_line limit (own_suspicion own view) taken (line_is_line limit own_frame own_writable (omega arith) (omega arith)) (rw (frame_of_line own_frame own_writable) own_taken)
       ∙ ap (λ (m : Frame). record { found = true; frame = m }) (frame_of_line own_frame own_writable)
 
--- there is a next view where FULL lets pass a SUSPICION that sets a target
-pub not_last : (r : Roster) (v : ViewRecord) (site : ℕ) → full r v site ≡ false → sets r v site ≡ true → last_view v.view ≡ false
-not_last r v site e f = sym (and-true (last_view v.view)) ∙ (rw f at e)
+-- the next view fits where FULL lets pass
+pub not_last : (r : Roster) (v : ViewRecord) (site : ℕ) → full r v site ≡ false → sets r v site ≡ true → (next_view v).0 < 2 ^ 32
+not_last r v site e f = omega (arith, leb-false 4294967295 v.view.0 (sym (and-true (last_view v.view)) ∙ (rw f at e)))
 
-pub below_last : (view : View) → last_view view ≡ false → (next view).0 < 2 ^ 32
-below_last view e = omega (arith, leb-false 4294967295 view.0 e)
-
-next_fits : (r : Roster) (v : ViewRecord) (m : Heading) → NoneHolds (frame_rules SUSPICION r v m) → sets r v m.sender ≡ true → (next v.view).0 < 2 ^ 32
+next_fits : (r : Roster) (v : ViewRecord) (m : Frame) → NoneHolds (frame_rules SUSPICION r v m) → sets r v m.sender ≡ true → (next_view v).0 < 2 ^ 32
 unfolding test_of
-next_fits r v m n e = below_last v.view (not_last r v m.sender (no_test n Full) e)
+next_fits r v m n e = not_last r v m.sender (no_test n Full) e
 
 module _ {own : ℕ} {v : ViewRecord} (f : Fits own v) where
   suspected_fits : (site : ℕ) → suspected v site < 2 ^ 16
@@ -331,7 +326,7 @@ keeps_fits r own room v line f =
     (stepped r own room v line)
 
 -- its masks stay within the sites, so a step never leaves a record that CONFIG refuses
-sender_below : (k : Kind) (r : Roster) (v : ViewRecord) (m : Heading) → NoneHolds (frame_rules k r v m) → m.sender < r.n
+sender_below : (k : Kind) (r : Roster) (v : ViewRecord) (m : Frame) → NoneHolds (frame_rules k r v m) → m.sender < r.n
 unfolding test_of
 sender_below SUSPICION r v m n = leb-false r.n m.sender (no_test n Sender)
 sender_below VIEWCHANGE r v m n = leb-false r.n m.sender (no_test n Sender)
@@ -376,7 +371,7 @@ keeps_config r own room v line e =
     rw (and_left (seated r own room) _ whole, keeps_valid r own room v line (and_right (seated r own room) _ whole))
 
 -- the view never falls
-target_above : (r : Roster) (v : ViewRecord) (m : Heading) → NoneHolds (frame_rules VIEWCHANGE r v m) → same_view m.view v.target ≡ true → v.view.0 < v.target.0
+target_above : (r : Roster) (v : ViewRecord) (m : Frame) → NoneHolds (frame_rules VIEWCHANGE r v m) → same_view m.view v.target ≡ true → v.view.0 < v.target.0
 unfolding test_of
 target_above r v m n q =
     omega (

@@ -1,13 +1,11 @@
 // View change: sites that suspect the leader of a view agree on the next one.
 ghost use Rattle.std.specs.Prelude.{true, false, ◌≡◌, eqb};
-ghost use Rattle.roster.specs.Counts.{last_view};
 ghost use Rattle.refusal.specs.Rules.{answer};
-ghost use Rattle.frame.specs.Kinds as kinds;
 ghost use Rattle.site.specs.Reply.{Handed, sends};
 ghost use Rattle.viewchange.specs.ViewChange as spec;
 ghost use Rattle.viewchange.specs.Code.Parts as parts;
 
-use frame::{Head, Heading};
+use frame::Heading;
 use refusal::{Answer, Refusal, given};
 use roster::{Ballot, Roster, View};
 use site::ViewRecord;
@@ -20,8 +18,15 @@ pub struct Outcome {
     pub views: ViewRecord,
 }
 
-// The kinds of frames that are taken.
-const TAKEN: u16 = 1 << frame::SUSPICION | 1 << frame::VIEWCHANGE;
+// The kinds of frames taken and sent.
+const SUSPICION: u8 = 8;
+
+const CHANGE: u8 = 9;
+
+const LEADER: u8 = 10;
+
+// SUSPICION and VIEWCHANGE, which are bits 8 and 9.
+const TAKEN: u16 = 768;
 
 // ---- the checks
 
@@ -34,7 +39,7 @@ fn config(r: Roster, own: u8, room: usize, v: ViewRecord) -> bool
 
 // Whether the sender is none of the sites.
 fn unknown(r: Roster, site: u8) -> bool
-    ensures { result ≡ spec.unknown r site }
+    ensures { result ≡ spec.sender r site }
 {
     r.n <= site
 }
@@ -99,20 +104,20 @@ fn on_change(r: Roster, v: ViewRecord, site: u8, view: View, mask: u16) -> Answe
     )
 }
 
-// The answer to a line after CONFIG, by what was read of it.
-fn check(r: Roster, v: ViewRecord, head: Head) -> Answer
+// The answer to a line after CONFIG, by the heading that was read of it.
+fn check(r: Roster, v: ViewRecord, head: Heading) -> Answer
     ensures { result ≡ answer (parts.read_rules r v (parts.read head)) }
 {
     let found = head.found;
     if !found {
         return Answer::Refused(Refusal::Form);
     }
-    let h = head.heading;
-    let suspicion = h.kind == frame::SUSPICION;
+    let view = head.view;
+    let suspicion = head.kind == SUSPICION;
     if suspicion {
-        return on_suspicion(r, v, h.sender, h.view);
+        return on_suspicion(r, v, head.sender, view);
     }
-    on_change(r, v, h.sender, h.view, h.mask)
+    on_change(r, v, head.sender, view, head.mask)
 }
 
 // ---- the effects
@@ -122,23 +127,18 @@ fn notify(kind: u8, own: u8, view: View, mask: u16, out: &mut [u8]) -> usize
     ensures { Handed (sends (spec.notice kind own view mask)) result out.old out.new }
 {
     let none: [u64; 0] = [];
-    let heading = Heading {
+    site::send(
+        true,
         kind,
-        sender: own,
+        own,
         view,
-        ballot: Ballot(0),
-        proven_ballot: Ballot(0),
+        Ballot(0),
+        Ballot(0),
         mask,
-    };
-    site::send(true, heading, &none, &none, out)
-}
-
-// The view after one that is not the last.
-fn next(view: View) -> View
-    requires { last_view view ≡ false }
-    ensures { result ≡ spec.next view }
-{
-    View(view.0 + 1)
+        &none,
+        &none,
+        out,
+    )
 }
 
 // Adds a site's suspicion. If that sets a target, it is the next view, and a VIEWCHANGE to it goes out.
@@ -163,12 +163,12 @@ fn suspect(r: Roster, own: u8, v: ViewRecord, site: u8, out: &mut [u8]) -> Outco
             views: noted,
         };
     }
-    let target = next(view);
-    let sent = notify(frame::VIEWCHANGE, own, target, suspicions, out);
+    let next = View(view.0 + 1);
+    let sent = notify(CHANGE, own, next, suspicions, out);
     let targeted = ViewRecord {
         view,
         suspicions,
-        target,
+        target: next,
         changes: roster::with_site(0, own),
     };
     Outcome {
@@ -182,7 +182,7 @@ fn suspect(r: Roster, own: u8, v: ViewRecord, site: u8, out: &mut [u8]) -> Outco
 fn restart(own: u8, v: ViewRecord, site: u8, view: View, mask: u16, out: &mut [u8]) -> Outcome
     ensures { parts.Done (spec.restart own v site view mask) out.old result out.new }
 {
-    let sent = notify(frame::VIEWCHANGE, own, view, mask, out);
+    let sent = notify(CHANGE, own, view, mask, out);
     let present = v.view;
     let restarted = ViewRecord {
         view: present,
@@ -218,7 +218,7 @@ fn join(r: Roster, own: u8, v: ViewRecord, site: u8, out: &mut [u8]) -> Outcome
             views: joined,
         };
     }
-    let sent = notify(frame::LEADER, own, target, changes, out);
+    let sent = notify(LEADER, own, target, changes, out);
     let moved = ViewRecord {
         view: target,
         suspicions: 0,
@@ -233,20 +233,20 @@ fn join(r: Roster, own: u8, v: ViewRecord, site: u8, out: &mut [u8]) -> Outcome
 }
 
 // Does what an accepted frame asks for, by its kind.
-fn perform(r: Roster, own: u8, v: ViewRecord, h: Heading, out: &mut [u8]) -> Outcome
-    requires { eqb h.kind kinds.SUSPICION ≡ true → spec.full r v h.sender ≡ false }
-    ensures { parts.Done (spec.accepted (spec.kind_of h.kind) r own v h) out.old result out.new }
+fn perform(r: Roster, own: u8, v: ViewRecord, head: Heading, out: &mut [u8]) -> Outcome
+    requires { eqb head.kind spec.suspicion_kind ≡ true → spec.full r v head.sender ≡ false }
+    ensures { parts.Done (spec.accepted (spec.kind_of head.kind) r own v (parts.read head).frame) out.old result out.new }
 {
-    let suspicion = h.kind == frame::SUSPICION;
+    let suspicion = head.kind == SUSPICION;
     if suspicion {
-        return suspect(r, own, v, h.sender, out);
+        return suspect(r, own, v, head.sender, out);
     }
-    let view = h.view;
+    let view = head.view;
     let equal = view.equals(v.target);
     if equal {
-        return join(r, own, v, h.sender, out);
+        return join(r, own, v, head.sender, out);
     }
-    restart(own, v, h.sender, view, h.mask, out)
+    restart(own, v, head.sender, view, head.mask, out)
 }
 
 // ---- the steps
@@ -276,7 +276,7 @@ pub fn step(r: Roster, own: u8, v: ViewRecord, line: &[u8], out: &mut [u8]) -> O
     if refused {
         return refuse(v, answer);
     }
-    perform(r, own, v, head.heading, out)
+    perform(r, own, v, head, out)
 }
 
 // The host's own suspicion of a view: it enters as a SUSPICION from itself.

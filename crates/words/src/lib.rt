@@ -1,5 +1,7 @@
 // Lists of words: the first of them, comparing, copying.
-ghost use Rattle.std.specs.Prelude.{◌≡◌, ◌≤◌, min, length, take};
+#![tactic(auto)]
+
+ghost use Rattle.std.specs.Prelude.{◌≡◌, ◌≤◌, length, take};
 ghost use Rattle.words.specs.Words as spec;
 
 // The rule: how many commands a history may have. It is handed to the functions that need it.
@@ -7,13 +9,6 @@ pub const LIMIT: u8 = 32;
 
 // The capacity: how many words the array of a history and a row of a table have.
 pub const CAPACITY: usize = 32;
-
-// The smaller of two numbers.
-pub fn smaller(a: usize, b: usize) -> usize
-    ensures { result ≡ min a b }
-{
-    if a < b { a } else { b }
-}
 
 // The first n words, or all of them if there are fewer.
 pub fn first<'a>(words: &'a [u64], n: usize) -> &'a [u64]

@@ -26,13 +26,13 @@ first-requires : tie.Need-first-requires
 first-requires c κs = search rules
 
 check-requires-3 : tie.Need-check-requires-3
-check-requires-3 c κs = c.before.before.before.before.before.before.before.before.before.before.before.before.before.before.requires.0
+check-requires-3 c κs = c.before.before.before.before.before.before.before.before.before.before.before.before.before.requires.0
 
 returns-3 : tie.Need-returns-3
 returns-3 c = rw (c.before.before.before.before.before.before.before.if1.false, c.before.before.before.before.before.if2.false, c.before.if3.true, ← c.before.before.before.first.ensures) c.check3.ensures
 
 check-requires-4 : tie.Need-check-requires-4
-check-requires-4 c κs = rw (c.before.before.before.before.first.ensures, length-take) (omega (arith, c.before.before.before.before.before.before.before.before.before.before.before.before.before.before.before.before.requires.1))
+check-requires-4 c κs = rw (c.before.before.before.before.first.ensures, length-take) (omega (arith, c.before.before.before.before.before.before.before.before.before.before.before.before.before.before.before.requires.1))
 
 returns-4 : tie.Need-returns-4
 returns-4 c = rw (c.before.before.before.before.before.before.before.before.before.if1.false, c.before.before.before.before.before.before.before.if2.false, c.before.before.before.if3.false, c.before.if4.true, ← c.before.before.before.before.before.first.ensures) c.check4.ensures
@@ -44,7 +44,7 @@ row-requires : tie.Need-row-requires
 row-requires c κs = search rules
 
 check-requires-5 : tie.Need-check-requires-5
-check-requires-5 c κs = (rw c.row.ensures (length_row _ _ _), rw (c.before.before.before.before.before.before.first.ensures, length-take) (omega (arith, c.before.before.before.before.before.before.before.before.before.before.before.before.before.before.before.before.before.before.requires.1)))
+check-requires-5 c κs = (rw c.row.ensures (length_row _ _ _), rw (c.before.before.before.before.before.before.first.ensures, length-take) (omega (arith, c.before.before.before.before.before.before.before.before.before.before.before.before.before.before.before.before.before.requires.1)))
 
 returns-5 : tie.Need-returns-5
 returns-5 c = rw (c.before.before.before.before.before.before.before.before.before.before.before.if1.false, c.before.before.before.before.before.before.before.before.before.if2.false, c.before.before.before.before.before.if3.false, c.before.before.before.if4.false, ← c.before.before.before.before.before.before.before.first.ensures, ← c.before.row.ensures) c.check5.ensures

@@ -1,5 +1,5 @@
 -- The answer first, then the effect: what the code's checks answer of what was read, what they let pass, and that an effect is done.
-use Rattle.std.specs.Prelude.{◌≡◌, Bool, false, not, cond, ◌||◌, List, ◌∷◌, ℕ, ◌≤◌, eqb, length, take}
+use Rattle.std.specs.Prelude.{◌≡◌, Bool, true, false, not, cond, ◌||◌, List, ◌∷◌, ℕ, ◌≤◌, eqb, length, take}
 use Rattle.words.specs.Sizes.{capacity}
 use Rattle.roster.specs.declared.Roster.{Roster}
 use Rattle.refusal.specs.declared.Refusal.TheVariants.{Config, Form}
@@ -7,7 +7,6 @@ use Rattle.refusal.specs.Rules.{Rule, ◌gives◌}
 use Rattle.merge.specs.Merge.{appended}
 use Rattle.content.specs.Content.{contradicts}
 use Rattle.frame.specs.declared.Reading.{Reading}
-use Rattle.frame.specs.Kinds as kinds
 use Rattle.site.specs.declared.ViewRecord.{ViewRecord}
 use Rattle.site.specs.Reply.{Reply, buffer}
 use Rattle.acceptor.specs.declared.State.{State}
@@ -18,18 +17,13 @@ use Rattle.acceptor.specs.Acceptor.{config, rules_in, outcome, lengthened}
 abbrev pub rules_on : Roster → ℕ → ℕ → ViewRecord → State → Reading → List Rule
 rules_on r own room v s d = config r own room v s gives Config ∷ not d.found gives Form ∷ rules_in r v s d.frame
 
--- how the code tells the kinds: those that open a ballot, those that ask for a history to be signed, and what is left is a VERIFY
-abbrev pub opens : ℕ → Bool
-opens kind = eqb kind kinds.P1A || eqb kind kinds.FAST
-
-abbrev pub signs : ℕ → Bool
-signs kind = eqb kind kinds.PROPOSE || eqb kind kinds.P2A
-
--- what the checks let pass: at most 16 sites, at most 32 commands, and no VERIFY that contradicts its sender's entry
-pub record Performable (r : Roster) (n kind : ℕ) (entry h : List ℕ) : Type 0 where
+-- what the checks let pass: at most 16 sites, at most 32 commands, at most 32 that a PROPOSE leaves, and no VERIFY that contradicts its sender's
+-- entry
+pub record Performable (r : Roster) (n kind : ℕ) (held entry h : List ℕ) : Type 0 where
   pub few_sites : r.n ≤ 16
   pub short : n ≤ capacity
-  pub agrees : opens kind ≡ false → signs kind ≡ false → contradicts entry h ≡ false
+  pub fits : eqb kind 4 ≡ true → length (appended held h) ≤ capacity
+  pub agrees : (eqb kind 1 || eqb kind 2) ≡ false → (eqb kind 4 || eqb kind 5) ≡ false → contradicts entry h ≡ false
 
 -- the history that a frame with h asks to sign: with what is held, if it is a request
 abbrev pub asked : Bool → List ℕ → List ℕ → List ℕ

@@ -5,7 +5,7 @@ use native.Mathlib.Omega.{arith}
 use mathlib.Core.Path.{refl}
 use borrow.Author.Rules.{rules}
 use borrow.Author.Tests.{not-true, not-false}
-use Rattle.frame.specs.Layout.{fields, widths}
+use Rattle.frame.specs.Layout.{widths}
 use Rattle.frame.proofs.Runs.{Gathering, width_most, end_within, part_size, gathering_start, gathering_stop, gathering_turn, gathering_end}
 use Rattle.frame.proofs.read_header.Statement.{statement}
 use Rattle.frame.proofs.read_header.Tie as tie
@@ -14,7 +14,7 @@ abbrev invariant-loop : tie.invariant-loop
 invariant-loop values digits head₀ at₀ k₀ head at k = Gathering widths digits head at k
 
 abbrev decreases-loop : tie.decreases-loop
-decreases-loop values digits head₀ at₀ k₀ head at k = fields - k
+decreases-loop values digits head₀ at₀ k₀ head at k = 8 - k
 
 loop-holds : tie.Need-loop-init invariant-loop decreases-loop
 loop-holds c = gathering_start widths _ _ c.before.before.requires.2 c.before.before.requires.1

@@ -1,7 +1,6 @@
 -- `frame::unused_zero` meets its contract: the loop keeps that the answer for the whole row is the answer for what is left of it.
 -- Assumes nothing.
 use Rattle.frame.proofs.Turns.{row_length, unused_stop, unused_more, unused_end}
-use Rattle.frame.specs.Layout.{fields}
 use Rattle.frame.specs.Kinds.{uses, zero_unless}
 use lib.ListN.{get_or, drop}
 use lib.Dec.{eqb}
@@ -16,10 +15,10 @@ use Rattle.frame.proofs.unused_zero.Statement.{statement}
 use Rattle.frame.proofs.unused_zero.Tie as tie
 
 abbrev invariant-loop : tie.invariant-loop
-invariant-loop kind head table k₀ k = (k ≤ fields) × (zero_unless (drop k (get_or uses kind [])) (drop k head) ≡ zero_unless (get_or uses kind []) head)
+invariant-loop kind head table k₀ k = (k ≤ 8) × (zero_unless (drop k (get_or uses kind [])) (drop k head) ≡ zero_unless (get_or uses kind []) head)
 
 abbrev decreases-loop : tie.decreases-loop
-decreases-loop kind head table k₀ k = fields - k
+decreases-loop kind head table k₀ k = 8 - k
 
 loop-holds : tie.Need-loop-init invariant-loop decreases-loop
 loop-holds c = (search rules, refl)

@@ -61,7 +61,7 @@ same_length : tie.Need-same-length
 same_length c = search rules
 
 returns-3 : tie.Need-returns-3
-returns-3 c = parts_written c.before.before.before.before.before.before.before.before.before.before.before.before.before.before.before.args.t1 c.before.before.before.before.before.before.before.before.before.before.before.before.before.before.before.args.out.now (search rules) c.before.before.before.before.before.before.before.before.before.before.if1.false (sym c.before.before.before.before.before.before.before.before.all_zero_lem.ensures ∙ not-false c.before.before.before.before.before.before.before.before.all_zero_lem.result c.before.before.before.before.before.before.before.if2.false) _ _ c.before.before.write-from.ensures
+returns-3 c = parts_written c.before.before.before.before.before.before.before.before.before.before.before.before.before.before.before.before.before.args.t1 c.before.before.before.before.before.before.before.before.before.before.before.before.before.before.before.before.before.args.out.now (search rules) c.before.before.before.before.before.before.before.before.before.before.before.before.if1.false (sym c.before.before.before.before.before.before.before.before.before.before.all_zero_lem.ensures ∙ not-false c.before.before.before.before.before.before.before.before.before.before.all_zero_lem.result c.before.before.before.before.before.before.before.before.before.if2.false) _ _ c.before.before.write-from.ensures
 
 pub write_spec : {M : Type 1} → statement M
 write_spec =

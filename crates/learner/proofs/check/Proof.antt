@@ -39,11 +39,11 @@ first-requires c κs = search rules
 
 on-vote-requires : tie.Need-on-vote-requires
 on-vote-requires c κs =
-    (rw c.before.before.before.row.ensures (omega (arith, length_row c.before.before.before.before.before.before.before.before.before.before.before.before.before.before.before.args.words.now c.before.before.before.before.before.before.before.before.before.before.before.before.before.before.before.args.counts.now c.before.before.before.before.before.before.before.before.before.before.before.before.before.before.before.args.head.heading.sender)), rw (c.first.ensures, length-take) (omega arith))
+    (rw c.before.before.before.row.ensures (omega (arith, length_row c.before.before.before.before.before.before.before.before.before.before.before.before.before.before.args.words.now c.before.before.before.before.before.before.before.before.before.before.before.before.before.before.args.counts.now c.before.before.before.before.before.before.before.before.before.before.before.before.before.before.args.head.sender)), rw (c.first.ensures, length-take) (omega arith))
 
 returns-2 : tie.Need-returns-2
 returns-2 c =
-    goes_on _ _ (rule _ _ c.before.before.before.before.before.before.before.before.before.given2.ensures c.before.before.before.before.before.before.before.before.before.before.before.before.config.ensures (rule _ _ c.before.before.before.before.before.before.before.before.before.before.given.ensures refl no_rule)) c.before.before.before.before.before.before.before.before.refuses.ensures c.before.before.before.before.before.before.before.if1.false
+    goes_on _ _ (rule _ _ c.before.before.before.before.before.before.before.before.given2.ensures c.before.before.before.before.before.before.before.before.before.before.before.config.ensures (rule _ _ c.before.before.before.before.before.before.before.before.before.given.ensures refl no_rule)) c.before.before.before.before.before.before.before.refuses.ensures c.before.before.before.before.before.before.if1.false
     (rw (← c.before.before.before.before.row.ensures, ← c.before.first.ensures) c.on-vote.ensures)
 
 pub check-spec : {M : Type 1} → statement M

@@ -36,9 +36,9 @@ returns c =
     let s = state_of c.before.before.before.before.before.before.before.before.before.before.before.before.before.before.before.args.words.now c.before.before.before.before.before.before.before.before.before.before.before.before.before.before.before.args.counts.now c.before.before.before.before.before.before.before.before.before.before.before.before.before.before.before.args.learned.now c.before.before.before.before.before.before.before.before.before.before.before.before.before.before.before.args.count.now in
     let sized : Sized s.entries = record { counts_length = search rules; words_length = search rules } in
     let h = c.before.before.before.before.before.before.before.before.before.before.before.before.first.result.now in
-    let passed : Passed c.before.before.before.before.before.before.before.before.before.before.before.before.before.before.before.args.words.now c.before.before.before.before.before.before.before.before.before.before.before.before.before.before.before.args.counts.now c.before.before.before.before.before.before.before.before.before.before.before.before.before.before.before.args.head.heading.sender h = rw c.before.before.before.before.before.before.before.before.before.before.before.before.first.ensures c.before.before.before.before.before.before.before.before.before.before.before.before.before.before.before.requires in
+    let passed : Passed c.before.before.before.before.before.before.before.before.before.before.before.before.before.before.before.args.words.now c.before.before.before.before.before.before.before.before.before.before.before.before.before.before.before.args.counts.now c.before.before.before.before.before.before.before.before.before.before.before.before.before.before.before.args.head.sender h = rw c.before.before.before.before.before.before.before.before.before.before.before.before.first.ensures c.before.before.before.before.before.before.before.before.before.before.before.before.before.before.before.requires in
     rw (← c.before.before.before.before.before.before.before.before.before.before.before.before.first.ensures)
-    (concludes_refused c.before.before.before.before.before.before.before.before.before.before.before.before.before.before.before.args.r s sized c.before.before.before.before.before.before.before.before.before.before.before.before.before.before.before.args.head.heading.sender h passed c.before.before.before.before.before.before.before.supporters.result c.before.before.before.before.before.before.before.supporters.ensures c.before.before.before.before.merge-claims.result c.before.before.before.before.merge-claims.ensures
+    (concludes_refused c.before.before.before.before.before.before.before.before.before.before.before.before.before.before.before.args.r s sized c.before.before.before.before.before.before.before.before.before.before.before.before.before.before.before.args.head.sender h passed c.before.before.before.before.before.before.before.supporters.result c.before.before.before.before.before.before.before.supporters.ensures c.before.before.before.before.merge-claims.result c.before.before.before.before.merge-claims.ensures
     c.before.before.given2.result (rule _ _ c.before.before.given2.ensures refl (rule _ _ c.before.before.before.given.ensures refl no_rule)) c.before.refuses.result c.before.refuses.ensures c.if1.true)
 
 store-requires : tie.Need-store-requires
@@ -49,9 +49,9 @@ returns-2 c =
     let s = state_of c.before.before.before.before.before.before.before.before.before.before.before.before.before.before.before.before.before.before.before.before.args.words.now c.before.before.before.before.before.before.before.before.before.before.before.before.before.before.before.before.before.before.before.before.args.counts.now c.before.before.before.before.before.before.before.before.before.before.before.before.before.before.before.before.before.before.before.before.args.learned.now c.before.before.before.before.before.before.before.before.before.before.before.before.before.before.before.before.before.before.before.before.args.count.now in
     let sized : Sized s.entries = record { counts_length = search rules; words_length = search rules } in
     let h = c.before.before.before.before.before.before.before.before.before.before.before.before.before.before.before.before.before.first.result.now in
-    let passed : Passed c.before.before.before.before.before.before.before.before.before.before.before.before.before.before.before.before.before.before.before.before.args.words.now c.before.before.before.before.before.before.before.before.before.before.before.before.before.before.before.before.before.before.before.before.args.counts.now c.before.before.before.before.before.before.before.before.before.before.before.before.before.before.before.before.before.before.before.before.args.head.heading.sender h = rw c.before.before.before.before.before.before.before.before.before.before.before.before.before.before.before.before.before.first.ensures c.before.before.before.before.before.before.before.before.before.before.before.before.before.before.before.before.before.before.before.before.requires in
+    let passed : Passed c.before.before.before.before.before.before.before.before.before.before.before.before.before.before.before.before.before.before.before.before.args.words.now c.before.before.before.before.before.before.before.before.before.before.before.before.before.before.before.before.before.before.before.before.args.counts.now c.before.before.before.before.before.before.before.before.before.before.before.before.before.before.before.before.before.before.before.before.args.head.sender h = rw c.before.before.before.before.before.before.before.before.before.before.before.before.before.before.before.before.before.first.ensures c.before.before.before.before.before.before.before.before.before.before.before.before.before.before.before.before.before.before.before.before.requires in
     rw (← c.before.before.before.before.before.before.before.before.before.before.before.before.before.before.before.before.before.first.ensures)
-    (concludes_accepted c.before.before.before.before.before.before.before.before.before.before.before.before.before.before.before.before.before.before.before.before.args.r s sized c.before.before.before.before.before.before.before.before.before.before.before.before.before.before.before.before.before.before.before.before.args.head.heading.sender h passed c.before.before.before.before.before.before.before.before.before.before.before.before.supporters.result c.before.before.before.before.before.before.before.before.before.before.before.before.supporters.ensures c.before.before.before.before.before.before.before.before.before.merge-claims.result c.before.before.before.before.before.before.before.before.before.merge-claims.ensures
+    (concludes_accepted c.before.before.before.before.before.before.before.before.before.before.before.before.before.before.before.before.before.before.before.before.args.r s sized c.before.before.before.before.before.before.before.before.before.before.before.before.before.before.before.before.before.before.before.before.args.head.sender h passed c.before.before.before.before.before.before.before.before.before.before.before.before.supporters.result c.before.before.before.before.before.before.before.before.before.before.before.before.supporters.ensures c.before.before.before.before.before.before.before.before.before.merge-claims.result c.before.before.before.before.before.before.before.before.before.merge-claims.ensures
     c.before.before.before.before.before.before.before.given2.result (rule _ _ c.before.before.before.before.before.before.before.given2.ensures refl (rule _ _ c.before.before.before.before.before.before.before.before.given.ensures refl no_rule)) c.before.before.before.before.before.before.refuses.result c.before.before.before.before.before.before.refuses.ensures c.before.before.before.before.before.if1.false _ c.store.ensures)
 
 pub conclude-spec : {M : Type 1} → statement M

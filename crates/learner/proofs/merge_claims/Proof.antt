@@ -11,13 +11,13 @@ quorum-requires c κs = search rules
 first-requires : tie.Need-first-requires
 first-requires c κs = search rules
 
-merge-within-requires : tie.Need-merge-within-requires
-merge-within-requires c κs = search rules
+merge-requires : tie.Need-merge-requires
+merge-requires c κs = search rules
 
 returns : tie.Need-returns
 unfolding merging further
 returns c =
-    rw (← c.before.before.before.before.quorum.ensures, c.before.before.before.if1.true, ← c.before.first.ensures) c.merge-within.ensures
+    rw (← c.before.before.before.before.quorum.ensures, c.before.before.before.if1.true, ← c.before.first.ensures) c.merge.ensures
 
 returns-2 : tie.Need-returns-2
 unfolding merging further
@@ -25,4 +25,4 @@ returns-2 c = rw (← c.before.before.quorum.ensures, c.before.if1.false)
 
 pub merge-claims-spec : {M : Type 1} → statement M
 merge-claims-spec =
-    tie.close (tie.spec quorum-requires first-requires merge-within-requires returns returns-2)
+    tie.close (tie.spec quorum-requires first-requires merge-requires returns returns-2)

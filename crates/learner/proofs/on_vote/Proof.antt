@@ -26,8 +26,8 @@ returns-2 : tie.Need-returns-2
 returns-2 c =
     goes_on _ _ c.before.before.before.before.before.vote-heading.ensures c.before.before.before.before.refuses.ensures c.before.before.before.if1.false (stops _ _ c.before.before.ordered.ensures c.before.refuses2.ensures c.if2.true)
 
-contradicts-within-requires : tie.Need-contradicts-within-requires
-contradicts-within-requires c κs = search rules
+contradicts-requires : tie.Need-contradicts-requires
+contradicts-requires c κs = search rules
 
 given-requires : tie.Need-given-requires
 given-requires c κs = search rules
@@ -35,7 +35,7 @@ given-requires c κs = search rules
 returns-3 : tie.Need-returns-3
 returns-3 c =
     goes_on _ _ c.before.before.before.before.before.before.before.vote-heading.ensures c.before.before.before.before.before.before.refuses.ensures c.before.before.before.before.before.if1.false
-    (goes_on _ _ c.before.before.before.before.ordered.ensures c.before.before.before.refuses2.ensures c.before.before.if2.false (rule _ _ c.given.ensures (c.before.contradicts_within_lem.ensures ∙ contradicts_within_lem 64 _ _ c.before.before.before.before.before.before.before.before.before.before.requires.0 c.before.before.before.before.before.before.before.before.before.before.requires.1) no_rule))
+    (goes_on _ _ c.before.before.before.before.ordered.ensures c.before.before.before.refuses2.ensures c.before.before.if2.false (rule _ _ c.given.ensures (c.before.contradicts.ensures ∙ contradicts_within_lem 64 _ _ c.before.before.before.before.before.before.before.before.before.before.requires.0 c.before.before.before.before.before.before.before.before.before.before.requires.1) no_rule))
 
 pub on-vote-spec : {M : Type 1} → statement M
 on-vote-spec =
@@ -47,6 +47,6 @@ on-vote-spec =
     ordered-requires
     refuses-requires-2
     returns-2
-    contradicts-within-requires
+    contradicts-requires
     given-requires
     returns-3)

@@ -16,7 +16,7 @@ use Rattle.learner.specs.Learner.{config, arrived, with_vote, merge_of, accepted
 -- the checks of a line of which this was read, up to those of the merge
 abbrev pub checks : Roster → State → Reading → List Rule
 checks r s m =
-    config r s gives Config ∷ not m.found gives Form ∷ vote_rules r (row_of s.entries m.frame.heading.sender) m.frame.heading (arrived m.frame)
+    config r s gives Config ∷ not m.found gives Form ∷ vote_rules r (row_of s.entries m.frame.sender) m.frame (arrived m.frame)
 
 -- what is known of a vote that passes them
 pub record Passed (words counts : List ℕ) (site : ℕ) (h : List ℕ) : Type 0 where

@@ -3,8 +3,7 @@
 use native.Mathlib.Omega.{arith}
 use borrow.Author.Rules.{rules}
 use lib.ListN.{length-set}
-use Rattle.lines.specs.AnswerLaws.{decimal_short}
-use Rattle.lines.proofs.Answers.{text_is}
+use Rattle.lines.proofs.Answers.{decimal_short, text_is}
 use Rattle.lines.proofs.answer_text.Statement.{statement}
 use Rattle.lines.proofs.answer_text.Tie as tie
 

@@ -1,5 +1,4 @@
--- `lines::value` meets its contract: a digit's character is that of 0 or a higher one, and past that of 9 that of a or a higher one, so the
--- difference is the digit.
+-- `lines::value` meets its contract: a digit's character is 48 or more, and 87 or more past 57, so the difference is the digit.
 use native.Mathlib.Omega.{arith}
 use Rattle.frame.specs.HexLaws.{value_lt}
 use Rattle.lines.proofs.Digits.{digit_from, letter_from, digit_value, letter_value}
@@ -12,17 +11,11 @@ sub-result c = omega (arith, digit_from c.before.args.c c.before.requires)
 sub-result-2 : tie.Need-overflow-sub-result-2
 sub-result-2 c = omega (arith, letter_from c.before.args.c c.before.requires (omega arith))
 
-add-result : tie.Need-overflow-add-result
-add-result c = omega arith
-
 returns : tie.Need-returns
 returns c = (digit_value c.before.args.c (omega arith), omega (arith, value_lt c.before.args.c c.before.requires, digit_value c.before.args.c (omega arith)))
 
 returns-2 : tie.Need-returns-2
-returns-2 c =
-    let given = c.before.args in
-    let e = letter_value given.c (letter_from given.c c.before.requires (omega arith)) in
-    (e, omega (arith, value_lt given.c c.before.requires, e))
+returns-2 c = (letter_value c.before.args.c (omega arith), omega (arith, value_lt c.before.args.c c.before.requires, letter_value c.before.args.c (omega arith)))
 
 pub value_spec : {M : Type 1} → statement M
-value_spec = tie.close (tie.spec sub-result sub-result-2 add-result returns returns-2)
+value_spec = tie.close (tie.spec sub-result sub-result-2 returns returns-2)

@@ -1,8 +1,9 @@
--- `speckleewe::acceptor_in_parts` meets its contract: the step's answer with its number, and the leaves and the buffer as the step leaves them.
+-- `speckleewe::acceptor_in_parts` meets its contract: the step's answer with its number, and the parts and the buffer as the step leaves them.
 -- Assumes nothing.
 use mathlib.Core.Path.{ap, ◌∙◌}
 use borrow.Author.Rules.{rules}
-use Rattle.speckleewe.proofs.Replies.{same_number, acceptor_given}
+use Rattle.speckleewe.specs.Outcomes.{site_given}
+use Rattle.speckleewe.proofs.Replies.{same_number}
 use Rattle.speckleewe.proofs.acceptor_in_parts.Statement.{statement}
 use Rattle.speckleewe.proofs.acceptor_in_parts.Tie as tie
 
@@ -17,8 +18,9 @@ same_length c = search rules
 
 returns : tie.Need-returns
 returns c =
-    let stepped = c.before.before.before.step-in-place.ensures in
-    (same_number c.number.ensures ∙ ap (acceptor_given _) stepped.0, stepped.1)
+    let call = c.before.before.before.before.step-in-place in
+    (same_number c.number.ensures ∙ ap (site_given _) call.ensures.0, call.ensures.1)
 
 pub acceptor-in-parts-spec : {M : Type 1} → statement M
-acceptor-in-parts-spec = tie.close (tie.spec step-in-place-requires number-requires same_length returns)
+acceptor-in-parts-spec =
+    tie.close (tie.spec step-in-place-requires number-requires same_length returns)

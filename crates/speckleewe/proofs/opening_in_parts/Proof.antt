@@ -1,4 +1,4 @@
--- `speckleewe::opening_in_parts` meets its contract: the step's answer with its number, and the leaves and the buffer as the step leaves them.
+-- `speckleewe::opening_in_parts` meets its contract: the opening's answer with its number, and the parts and the buffer as the step leaves them.
 -- Assumes nothing.
 use mathlib.Core.Path.{ap, ◌∙◌}
 use borrow.Author.Rules.{rules}
@@ -18,8 +18,9 @@ same_length c = search rules
 
 returns : tie.Need-returns
 returns c =
-    let stepped = c.before.before.before.open-in-place.ensures in
-    (same_number c.number.ensures ∙ ap leader_given stepped.0, stepped.1)
+    let call = c.before.before.before.before.open-in-place in
+    (same_number c.number.ensures ∙ ap leader_given call.ensures.0, call.ensures.1)
 
 pub opening-in-parts-spec : {M : Type 1} → statement M
-opening-in-parts-spec = tie.close (tie.spec open-in-place-requires number-requires same_length returns)
+opening-in-parts-spec =
+    tie.close (tie.spec open-in-place-requires number-requires same_length returns)

@@ -3,12 +3,7 @@
 use contract.Running.{tables, tables_of}
 use denote.Triple.Spec.{triple_of}
 use denote.Triple.Table.{entered, cited}
-use Rattle.speckleewe.specs.Outcomes.{learner_call}
-use Rattle.speckleewe.proofs.Arguments.{roster, bytes}
-use Rattle.speckleewe.proofs.Records.{learner}
-use Rattle.speckleewe.proofs.InPlace.{meets}
-use Rattle.speckleewe.specs.contracts.LearnerReply as Y
-use Rattle.speckleewe.proofs.LearnerReply.TheLaws as Y'
+use Rattle.speckleewe.proofs.LearnerInPlace.{meets}
 use Rattle.speckleewe.specs.contracts.learner_in_parts as in_parts
 use Rattle.speckleewe.proofs.learner_in_parts.Symbol as step
 use Rattle.speckleewe.proofs.learner_in_parts.Met as step_met
@@ -22,7 +17,6 @@ unfolding code.routine tables_of
 speckleewe-learner-spec 𝓤 𝓛 𝓜 𝓡 =
     entered 𝓤 𝓛.H (triple_of 𝓛 entry.signature (entry.spec 𝓛 𝓜.mem 𝓡.run))
     (tables 𝓤 𝓛.H 𝓜 𝓡 code.env).C (tables 𝓤 𝓛.H 𝓜 𝓡 code.env).Λ key.name code.function (code.unfolded 𝓤 𝓛.H 𝓜 𝓡)
-    (meets learner roster bytes Y.the_type Y'.the_laws Y'.the_plain (λ κ s r line a t. learner_call s r line.now a t) (λ c ν γs a ws e. e) 𝓛
-    step.name (tables_of 𝓤 𝓛.H 𝓜 (tables 𝓤 𝓛.H 𝓜 𝓡 code.env))
+    (meets 𝓛 step.name (tables_of 𝓤 𝓛.H 𝓜 (tables 𝓤 𝓛.H 𝓜 𝓡 code.env))
     (cited 𝓤 𝓛.H (triple_of 𝓛 in_parts.signature (in_parts.spec 𝓛 𝓜.mem 𝓡.run))
     𝓜 𝓡 code.env step.name step.routine code.calls-speckleewe::learner-in-parts (step_met.met 𝓤 𝓛 𝓜 𝓡)))

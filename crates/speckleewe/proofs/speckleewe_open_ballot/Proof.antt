@@ -6,9 +6,8 @@ use denote.Triple.Table.{entered, cited}
 use Rattle.speckleewe.specs.Outcomes.{opening_call}
 use Rattle.speckleewe.specs.contracts.Opening as opening
 use Rattle.speckleewe.proofs.Opening.TheLaws as opening'
-use Rattle.speckleewe.proofs.Arguments.{roster, own, struct}
-use Rattle.speckleewe.proofs.Records.{leader}
-use Rattle.speckleewe.proofs.InPlaceWithBuffer.{meets}
+use Rattle.speckleewe.proofs.Arguments.{struct}
+use Rattle.speckleewe.proofs.LeaderInPlace.{meets}
 use Rattle.speckleewe.specs.contracts.opening_in_parts as in_parts
 use Rattle.speckleewe.proofs.opening_in_parts.Symbol as step
 use Rattle.speckleewe.proofs.opening_in_parts.Met as step_met
@@ -22,8 +21,7 @@ unfolding code.routine tables_of
 speckleewe-open-ballot-spec 𝓤 𝓛 𝓜 𝓡 =
     entered 𝓤 𝓛.H (triple_of 𝓛 entry.signature (entry.spec 𝓛 𝓜.mem 𝓡.run))
     (tables 𝓤 𝓛.H 𝓜 𝓡 code.env).C (tables 𝓤 𝓛.H 𝓜 𝓡 code.env).Λ key.name code.function (code.unfolded 𝓤 𝓛.H 𝓜 𝓡)
-    (meets leader roster own (struct opening.the_type opening'.the_laws) (λ κ s r own p out a t buffer. opening_call s r own p out a t buffer)
-    (λ c ν γs a ws e. e)
+    (meets (struct opening.the_type opening'.the_laws) (λ κ s r own p out a t buffer. opening_call s r own p out a t buffer)
     𝓛 step.name (tables_of 𝓤 𝓛.H 𝓜 (tables 𝓤 𝓛.H 𝓜 𝓡 code.env))
     (cited 𝓤 𝓛.H (triple_of 𝓛 in_parts.signature (in_parts.spec 𝓛 𝓜.mem 𝓡.run))
     𝓜 𝓡 code.env step.name step.routine code.calls-speckleewe::opening-in-parts (step_met.met 𝓤 𝓛 𝓜 𝓡)))

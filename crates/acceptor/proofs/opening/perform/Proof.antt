@@ -1,5 +1,9 @@
 -- `acceptor::opening::perform` meets its contract: the table is emptied, the marks are those in the ballot, and the P1B goes out in a classic one.
 -- Assumes nothing.
+use Prim.Native.Nat.{◌≤◌}
+use native.Mathlib.Omega.{arith}
+use lib.ListN.{length, length-take}
+use lib.Seq.{take_all}
 use Rattle.acceptor.specs.Acceptor.{opening}
 use borrow.Author.Rules.{rules}
 use Rattle.acceptor.proofs.opening.perform.Statement.{statement}
@@ -29,7 +33,12 @@ same_length c = search rules
 returns : tie.Need-returns
 unfolding opening
 returns c =
-    (rw (c.in-ballot.ensures, c.before.flag.ensures, c.before.before.forget.ensures, ← c.before.before.before.before.before.before.before.before.before.before.before.before.first.ensures, ← c.before.before.before.before.before.before.before.before.before.before.first2.ensures, c.before.before.before.before.before.before.before.send.ensures.0), rw (← c.before.before.before.before.before.before.before.before.before.before.before.before.first.ensures, ← c.before.before.before.before.before.before.before.before.before.before.first2.ensures) c.before.before.before.before.before.before.before.send.ensures.1)
+    let g = c.before.before.before.before.before.before.before.before.before.first2.result.now in
+    let h = c.before.before.before.before.before.before.before.before.before.before.before.first.result.now in
+    let short-g : length g ≤ 32 = rw (c.before.before.before.before.before.before.before.before.before.first2.ensures, length-take) (omega arith) in
+    let short-h : length h ≤ 32 = rw (c.before.before.before.before.before.before.before.before.before.before.before.first.ensures, length-take) (omega arith) in
+    let handed = rw (take_all 32 g short-g, take_all 32 h short-h) at c.before.before.before.before.before.before.before.send.ensures in
+    (rw (c.in-ballot.ensures, c.before.flag.ensures, c.before.before.forget.ensures, ← c.before.before.before.before.before.before.before.before.before.before.before.first.ensures, ← c.before.before.before.before.before.before.before.before.before.first2.ensures, handed.0), rw (← c.before.before.before.before.before.before.before.before.before.before.before.first.ensures, ← c.before.before.before.before.before.before.before.before.before.first2.ensures) handed.1)
 
 pub perform-spec : {M : Type 1} → statement M
 perform-spec =

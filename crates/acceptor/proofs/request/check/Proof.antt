@@ -29,14 +29,14 @@ returns-2 : tie.Need-returns-2
 returns-2 c =
     goes_on _ _ c.before.before.before.before.before.check-heading.ensures c.before.before.before.before.refuses.ensures c.before.before.before.if1.false (stops _ _ c.before.before.requested.ensures c.before.refuses2.ensures c.if2.true)
 
-extends-within-requires : tie.Need-extends-within-requires
-extends-within-requires c κs = search rules
+extends-requires : tie.Need-extends-requires
+extends-requires c κs = search rules
 
 returns-3 : tie.Need-returns-3
 returns-3 c =
     goes_on _ _ c.before.before.before.before.before.before.before.check-heading.ensures c.before.before.before.before.before.before.refuses.ensures c.before.before.before.before.before.if1.false
     (goes_on _ _ c.before.before.before.before.requested.ensures c.before.before.before.refuses2.ensures c.before.before.if2.false
-    (sym (judged_first Refused Accepted _ _ _ (ap not (extends_is c.before.before.before.before.before.before.before.before.before.before.before.args.held.now c.before.before.before.before.before.before.before.before.before.before.before.args.proven.now _ c.before.before.before.before.before.before.before.before.before.before.before.requires c.before.extends_within_lem.ensures) ∙ c.if3.true))))
+    (sym (judged_first Refused Accepted _ _ _ (ap not (extends_is c.before.before.before.before.before.before.before.before.before.before.before.args.held.now c.before.before.before.before.before.before.before.before.before.before.before.args.proven.now _ c.before.before.before.before.before.before.before.before.before.before.before.requires c.before.extends.ensures) ∙ c.if3.true))))
 
 appendable-requires : tie.Need-appendable-requires
 appendable-requires c κs = search rules
@@ -45,7 +45,7 @@ returns-4 : tie.Need-returns-4
 returns-4 c =
     goes_on _ _ c.before.before.before.before.before.before.before.before.check-heading.ensures c.before.before.before.before.before.before.before.refuses.ensures c.before.before.before.before.before.before.if1.false
     (goes_on _ _ c.before.before.before.before.before.requested.ensures c.before.before.before.before.refuses2.ensures c.before.before.before.if2.false
-    (c.appendable.ensures ∙ sym (judged_next Refused Accepted _ _ _ (ap not (extends_is c.before.before.before.before.before.before.before.before.before.before.before.before.args.held.now c.before.before.before.before.before.before.before.before.before.before.before.before.args.proven.now _ c.before.before.before.before.before.before.before.before.before.before.before.before.requires c.before.before.extends_within_lem.ensures) ∙ c.before.if3.false))))
+    (c.appendable.ensures ∙ sym (judged_next Refused Accepted _ _ _ (ap not (extends_is c.before.before.before.before.before.before.before.before.before.before.before.before.args.held.now c.before.before.before.before.before.before.before.before.before.before.before.before.args.proven.now _ c.before.before.before.before.before.before.before.before.before.before.before.before.requires c.before.before.extends.ensures) ∙ c.before.if3.false))))
 
 pub check-spec : {M : Type 1} → statement M
 check-spec =
@@ -57,7 +57,7 @@ check-spec =
     requested-requires
     refuses-requires-2
     returns-2
-    extends-within-requires
+    extends-requires
     returns-3
     appendable-requires
     returns-4)

@@ -18,13 +18,13 @@ returns : tie.Need-returns
 unfolding convinces
 returns c = rw (← c.before.before.quorum.ensures, ← c.before.reaches.ensures, not-true c.before.reaches.result c.if1.true)
 
-extends-within-requires : tie.Need-extends-within-requires
-extends-within-requires c κs = search rules
+extends-requires : tie.Need-extends-requires
+extends-requires c κs = search rules
 
 returns-2 : tie.Need-returns-2
 unfolding convinces
 returns-2 c =
-    rw (← c.before.before.before.before.quorum.ensures, ← c.before.before.before.reaches.ensures, not-false c.before.before.before.reaches.result c.before.before.if1.false, extends_is c.before.before.before.before.before.before.before.args.h.now c.before.before.before.before.before.before.before.args.proven.now _ c.before.before.before.before.before.before.before.requires c.before.extends_within_lem.ensures ∙ not-true _ c.if2.true)
+    rw (← c.before.before.before.before.quorum.ensures, ← c.before.before.before.reaches.ensures, not-false c.before.before.before.reaches.result c.before.before.if1.false, extends_is c.before.before.before.before.before.before.before.args.h.now c.before.before.before.before.before.before.before.args.proven.now _ c.before.before.before.before.before.before.before.requires c.before.extends.ensures ∙ not-true _ c.if2.true)
 
 same-requires : tie.Need-same-requires
 same-requires c κs = search rules
@@ -33,7 +33,7 @@ returns-3 : tie.Need-returns-3
 unfolding convinces
 returns-3 c =
     rw
-    (← c.before.before.before.before.before.before.quorum.ensures, ← c.before.before.before.before.before.reaches.ensures, not-false c.before.before.before.before.before.reaches.result c.before.before.before.before.if1.false, extends_is c.before.before.before.before.before.before.before.before.before.args.h.now c.before.before.before.before.before.before.before.before.before.args.proven.now _ c.before.before.before.before.before.before.before.before.before.requires c.before.before.before.extends_within_lem.ensures ∙ not-false _ c.before.before.if2.false, ← c.before.same.ensures, not-true c.before.same.result c.if3.true)
+    (← c.before.before.before.before.before.before.quorum.ensures, ← c.before.before.before.before.before.reaches.ensures, not-false c.before.before.before.before.before.reaches.result c.before.before.before.before.if1.false, extends_is c.before.before.before.before.before.before.before.before.before.args.h.now c.before.before.before.before.before.before.before.before.before.args.proven.now _ c.before.before.before.before.before.before.before.before.before.requires c.before.before.before.extends.ensures ∙ not-false _ c.before.before.if2.false, ← c.before.same.ensures, not-true c.before.same.result c.if3.true)
 
 equals-requires : tie.Need-equals-requires
 equals-requires c κs = search rules
@@ -42,7 +42,7 @@ returns-4 : tie.Need-returns-4
 unfolding convinces
 returns-4 c =
     rw
-    (← c.before.before.before.before.before.before.before.quorum.ensures, ← c.before.before.before.before.before.before.reaches.ensures, not-false c.before.before.before.before.before.before.reaches.result c.before.before.before.before.before.if1.false, extends_is c.before.before.before.before.before.before.before.before.before.before.args.h.now c.before.before.before.before.before.before.before.before.before.before.args.proven.now _ c.before.before.before.before.before.before.before.before.before.before.requires c.before.before.before.before.extends_within_lem.ensures ∙ not-false _ c.before.before.before.if2.false, ← c.before.before.same.ensures, not-false c.before.before.same.result c.before.if3.false, c.equals.ensures)
+    (← c.before.before.before.before.before.before.before.quorum.ensures, ← c.before.before.before.before.before.before.reaches.ensures, not-false c.before.before.before.before.before.before.reaches.result c.before.before.before.before.before.if1.false, extends_is c.before.before.before.before.before.before.before.before.before.before.args.h.now c.before.before.before.before.before.before.before.before.before.before.args.proven.now _ c.before.before.before.before.before.before.before.before.before.before.requires c.before.before.before.before.extends.ensures ∙ not-false _ c.before.before.before.if2.false, ← c.before.before.same.ensures, not-false c.before.before.same.result c.before.if3.false, c.equals.ensures)
 
 pub convinces-spec : {M : Type 1} → statement M
 convinces-spec =
@@ -51,7 +51,7 @@ convinces-spec =
     quorum-requires
     reaches-requires
     returns
-    extends-within-requires
+    extends-requires
     returns-2
     same-requires
     returns-3

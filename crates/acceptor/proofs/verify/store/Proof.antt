@@ -41,7 +41,7 @@ returns c =
     (stores_only given.r given.own s t h given.out.now c.before.before.before.before.before.before.before.certify.result c.before.before.convinces.result mask convinced (not-true _ c.before.if1.true))
 
 notify-requires : tie.Need-notify-requires
-notify-requires c κs = search rules
+notify-requires c κs = c.before.before.before.before.before.before.before.before.before.before.before.before.before.before.before.before.before.requires.1
 
 replace-requires : tie.Need-replace-requires
 replace-requires c κs = search rules
@@ -55,14 +55,14 @@ same_length c = search rules
 returns-2 : tie.Need-returns-2
 unfolding certificate_of
 returns-2 c =
-    let given = c.before.before.before.before.before.before.before.before.before.before.before.before.before.before.before.before.before.before.before.before.before.before.before.before.before.args in
+    let given = c.before.before.before.before.before.before.before.before.before.before.before.before.before.before.before.before.before.before.before.before.before.before.before.before.args in
     let s = state_of given.marks given.held.now given.held-count given.proven.now given.proven-count.now given.words.now given.counts.now in
     let h = given.h.now in
     let t = stored_at s.verified given.site h in
-    let mask : c.before.before.before.before.before.before.before.before.before.before.before.before.before.before.before.certify.result ≡ certificate_of given.r t h = c.before.before.before.before.before.before.before.before.before.before.before.before.before.before.before.certify.ensures ∙ ap (λ (t : Table). mask_to given.r.n (matches t h)) c.before.before.before.before.before.before.before.before.before.before.before.before.before.before.before.before.before.before.before.before.enter.ensures in
-    let convinced : c.before.before.before.before.before.before.before.before.before.before.convinces.result ≡ convinces given.r given.marks (take given.proven-count.now given.proven.now) c.before.before.before.before.before.before.before.before.before.before.before.before.before.before.before.certify.result h = rw c.before.before.before.before.before.before.before.before.before.before.before.first.ensures at c.before.before.before.before.before.before.before.before.before.before.convinces.ensures in
-    rw (c.having-proven.ensures, c.before.replace.ensures, c.before.before.before.before.before.before.before.before.before.before.before.before.before.before.before.before.before.before.before.before.enter.ensures)
-    (stores_and_proves given.r given.own s t h given.out.now c.before.before.before.before.before.before.before.before.before.before.before.before.before.before.before.certify.result c.before.before.before.before.before.before.before.before.before.before.convinces.result mask convinced (not-false _ c.before.before.before.before.before.before.before.before.before.if1.false) _ _ c.before.before.before.before.before.before.notify.ensures)
+    let mask : c.before.before.before.before.before.before.before.before.before.before.before.before.before.before.certify.result ≡ certificate_of given.r t h = c.before.before.before.before.before.before.before.before.before.before.before.before.before.before.certify.ensures ∙ ap (λ (t : Table). mask_to given.r.n (matches t h)) c.before.before.before.before.before.before.before.before.before.before.before.before.before.before.before.before.before.before.before.enter.ensures in
+    let convinced : c.before.before.before.before.before.before.before.before.before.convinces.result ≡ convinces given.r given.marks (take given.proven-count.now given.proven.now) c.before.before.before.before.before.before.before.before.before.before.before.before.before.before.certify.result h = rw c.before.before.before.before.before.before.before.before.before.before.first.ensures at c.before.before.before.before.before.before.before.before.before.convinces.ensures in
+    rw (c.having-proven.ensures, c.before.replace.ensures, c.before.before.before.before.before.before.before.before.before.before.before.before.before.before.before.before.before.before.before.enter.ensures)
+    (stores_and_proves given.r given.own s t h given.out.now c.before.before.before.before.before.before.before.before.before.before.before.before.before.before.certify.result c.before.before.before.before.before.before.before.before.before.convinces.result mask convinced (not-false _ c.before.before.before.before.before.before.before.before.if1.false) _ _ c.before.before.before.before.before.before.notify.ensures)
 
 pub store_spec : {M : Type 1} → statement M
 store_spec =

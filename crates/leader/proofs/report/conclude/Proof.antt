@@ -1,5 +1,7 @@
 -- `leader::report::conclude` meets its contract: it tests for report N-f, and then proposes, hands over the P2A and keeps the rest pending.
 -- Assumes nothing.
+use native.Mathlib.Omega.{arith}
+use lib.ListN.{length-take}
 use borrow.Author.Tests.{not-true, not-false}
 use Rattle.history.specs.Words.{history_of}
 use Rattle.leader.specs.Parts.{state_of}
@@ -35,7 +37,7 @@ first-requires-2 : tie.Need-first-requires-2
 first-requires-2 c κs = search rules
 
 send-p2a-requires : tie.Need-send-p2a-requires
-send-p2a-requires c κs = search rules
+send-p2a-requires c κs = rw (c.before.first2.ensures, length-take) (omega arith)
 
 shorten-requires : tie.Need-shorten-requires
 shorten-requires c κs = search rules

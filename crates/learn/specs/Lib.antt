@@ -1,2 +1,0 @@
--- What the contracts of `learn` cite.
-pub mod Reads

@@ -1,2 +1,0 @@
--- What the code's own functions cite beside what is believed.
-pub mod Parts

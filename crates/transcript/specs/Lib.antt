@@ -1,6 +1,0 @@
--- What the contracts of `transcript` cite, what is to be written for bytes of input, and the theorem that it is.
-pub mod Transcript
-pub mod Stream
-pub mod StreamLaws
-pub mod CutLaws
-pub mod TranscriptLaws
