@@ -1,5 +1,7 @@
 // The acceptor: it takes ballots, holds a history, and proves one that a quorum of sites verify. Each kind of frame has a module with its checks and
 // with what it does if they let it pass.
+#![tactic(auto)]
+
 mod opening;
 mod order;
 mod request;
@@ -24,7 +26,7 @@ use table::Table;
 
 // What an acceptor keeps. The view is not in it: it is the one in the view-change record.
 #[repr(C)]
-#[derive(Drop)]
+#[derive(Clone, Copy)]
 pub struct State {
     // The present ballot.
     pub ballot: Ballot,
@@ -43,7 +45,7 @@ pub struct State {
 }
 
 // The answer to a line, how many bytes of the buffer are to be sent, and the state after it.
-#[derive(Drop)]
+#[derive(Clone, Copy)]
 pub struct Outcome {
     pub answer: Answer,
     pub sent: usize,
@@ -51,7 +53,7 @@ pub struct Outcome {
 }
 
 // What the state keeps beside its histories and its table.
-#[derive(Drop)]
+#[derive(Clone, Copy)]
 pub struct Marks {
     pub ballot: Ballot,
     pub fast: u8,
@@ -61,7 +63,7 @@ pub struct Marks {
 }
 
 // What a call in place gives: the answer, how many bytes of the buffer are to be sent, and the marks after it.
-#[derive(Drop)]
+#[derive(Clone, Copy)]
 pub struct Settled {
     pub answer: Answer,
     pub sent: usize,

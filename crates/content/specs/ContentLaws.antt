@@ -1,14 +1,21 @@
--- What the tests of a contradiction say: within its length the code's test is the test, and of two lists that don't contradict each other the
+-- Valid commands that are not disordered are a history. What the tests of a contradiction say: within its length the code's test is the test, and of two lists that don't contradict each other the
 -- longer extends the other.
-use Rattle.std.specs.Prelude.{◌≡◌, refl, Bool, true, false, not, List, [], ◌∷◌, ◌++◌, ℕ, ◌≤◌, leb, length}
+use Rattle.std.specs.Prelude.{◌≡◌, refl, Bool, true, false, List, [], ◌∷◌, ◌++◌, ℕ, ◌≤◌, leb, length}
 use Rattle.std.proofs.Common.{sym, ap, subst, ◌∙◌, ⊎_elim, append-nil, arith, le-leb, length-append}
 use Rattle.std.proofs.lemmas.Bool.{lt-leb, not-false}
-use Rattle.basics.specs.Bools.{lt_or_le, true_or_false}
-use Rattle.history.specs.History.{Equivalent, Extends, extends}
+use Rattle.basics.specs.Bools.{lt_or_le, true_or_false, or_left, or_right}
+use Rattle.command.specs.Command.{all_valid}
+use Rattle.history.specs.History.{Equivalent, Extends, repeated, is_canonical, extends}
+use Rattle.history.specs.ValidLaws.{ValidHistory}
 use Rattle.history.specs.TakesLaws.{equivalent_sym, equivalent_length}
 use Rattle.history.specs.ExtensionLaws.{extends_refl, extends_along, extends_length, extends_sound, extends_refuted}
 use Rattle.history.specs.WordsLaws.{extends_within_lem}
-use Rattle.content.specs.Content.{contradicts, contradicts_within}
+use Rattle.content.specs.Content.{disordered, contradicts, contradicts_within}
+
+pub not_disordered : (h : List ℕ) → all_valid h ≡ true → disordered h ≡ false → ValidHistory h
+unfolding disordered
+not_disordered h a e =
+    record { commands = a; distinct = or_left (repeated h) _ e; in_order = not-false (is_canonical h) (or_right (repeated h) _ e) }
 
 pub contradicts_within_lem : (n : ℕ) (entry h : List ℕ) → length entry ≤ n → length h ≤ n → contradicts_within n entry h ≡ contradicts entry h
 unfolding contradicts contradicts_within

@@ -1,5 +1,7 @@
 // The checks of the commands that a frame carries, which the roles share: COMMAND and HISTORY; REUSED, NOTHING and FULL; CONTRADICTION. A refusal by
 // COMMAND is answered before the commands are compared with each other, which is the dear part.
+#![tactic(auto)]
+
 ghost use Rattle.std.specs.Prelude.{◌≡◌, min};
 ghost use Rattle.words.specs.Sizes.{capacity};
 ghost use Rattle.history.specs.Words.{union_capacity};

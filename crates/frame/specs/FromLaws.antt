@@ -1,10 +1,10 @@
 -- Frames whose heading and two lists of commands are apart: which have a line, what it is, and that every frame with a line is such a one.
-use Rattle.std.specs.Prelude.{ℕ, ◌+◌, ◌-◌, ◌≤◌, ◌≡◌, true, eqb, drop, replicate}
+use Rattle.std.specs.Prelude.{ℕ, ◌+◌, ◌-◌, ◌^◌, ◌≤◌, ◌<◌, ◌≡◌, true, eqb, drop, replicate}
 use Rattle.std.proofs.Common.{zero-add, suc-add, arith, sym, ◌∙◌, length-append, take-add, length-take-le}
 use Rattle.std.proofs.Math.Path.{ap, ap₂}
 use mathlib.Core.List.{List, [], ◌∷◌, ◌++◌, append_assoc}
 use Rattle.std.proofs.Math.ListN.{length, length-drop}
-use borrow.Author.Tests.{eqb-true, eq-eqb}
+use borrow.Author.Tests.{eqb-true, eq-eqb, lt-ltb}
 use Rattle.basics.specs.Bools.{and_both, and_left, and_right}
 use Rattle.words.specs.Sizes.{capacity}
 use Rattle.words.specs.Words.{padded}
@@ -14,7 +14,7 @@ use Rattle.frame.specs.declared.Heading.{Heading}
 use Rattle.frame.specs.Hex.{digits_of, spell, all_fit}
 use Rattle.frame.specs.Layout.{command_width, frame_capacity, widths, values, count, first, second}
 use Rattle.frame.specs.Format.{commands, line_feed, line_of, proper, all_zero, writable, written_length, written, head_of, frame_with, frame_from, listed, length_from, written_from}
-use Rattle.frame.specs.FormatLaws.{proper_count, is_writable, fit_append, fit_padded, padded_clear, padded_words, spell_more}
+use Rattle.frame.specs.FormatLaws.{proper_n, proper_m, proper_count, is_writable, fit_append, fit_padded, padded_clear, padded_words, spell_more}
 
 -- two lists of commands spell one after the other
 spell_append : (xs ys : List ℕ) → spell (commands (length xs + length ys)) (xs ++ ys) ≡ spell (commands (length xs)) xs ++ spell (commands (length ys)) ys
@@ -24,6 +24,29 @@ spell_append (x ∷ xs) ys =
     ap (λ (n : ℕ). spell (commands n) (x ∷ xs ++ ys)) (suc-add (length xs) (length ys))
     ∙ ap (λ (s : List ℕ). digits_of command_width x ++ s) (spell_append xs ys)
     ∙ sym (append_assoc (digits_of command_width x) (spell (commands (length xs)) xs) (spell (commands (length ys)) ys))
+
+-- numbers that fit their widths, as those of each value of the type do
+pub record Sized (h : Heading) : Type 0 where
+  pub kind : h.kind < 256
+  pub sender : h.sender < 256
+  pub view : h.view.0 < 2 ^ 32
+  pub ballot : h.ballot.0 < 2 ^ 32
+  pub proven_ballot : h.proven_ballot.0 < 2 ^ 32
+  pub mask : h.mask < 2 ^ 16
+
+header_fits : (h : Heading) (ws : List ℕ) → Sized h → h.n < 256 → h.m < 256 → all_fit widths (values (frame_with h ws)) ≡ true
+unfolding all_fit
+header_fits h ws s n m =
+    rw (
+      lt-ltb h.kind 256 s.kind,
+      lt-ltb h.sender 256 s.sender,
+      lt-ltb h.view.0 (2 ^ 32) s.view,
+      lt-ltb h.ballot.0 (2 ^ 32) s.ballot,
+      lt-ltb h.proven_ballot.0 (2 ^ 32) s.proven_ballot,
+      lt-ltb h.mask (2 ^ 16) s.mask,
+      lt-ltb h.n 256 n,
+      lt-ltb h.m 256 m,
+    )
 
 module _ (h : Heading) (g k : List ℕ) (e : listed h g k ≡ true) where
   pub listed_first : length g ≡ h.n
@@ -58,6 +81,13 @@ module _ (h : Heading) (g k : List ℕ) (e : listed h g k ≡ true) where
         header_fits = f;
         words_fit = fit_padded frame_capacity (length g + length k) (g ++ k) (fit_append (length g) (length k) g k a b);
       })
+
+  pub sized_writable : proper capacity (frame_from h g k) ≡ true → Sized h
+      → all_fit (commands (length g)) g ≡ true → all_fit (commands (length k)) k ≡ true → writable (frame_from h g k) ≡ true
+  sized_writable p s a b =
+      let n = proper_n capacity (frame_from h g k) p in
+      let m = proper_m capacity (frame_from h g k) p in
+      from_writable p (header_fits h (padded frame_capacity (g ++ k)) s (omega (arith, n)) (omega (arith, m))) a b
 
   -- which is the header, the first list, the second, and the line feed
   pub from_line : proper capacity (frame_from h g k) ≡ true → line_of (frame_from h g k)

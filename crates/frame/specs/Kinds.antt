@@ -1,7 +1,47 @@
 -- The kinds of frames, and which fields each uses.
-use Rattle.std.specs.Prelude.{ℕ, Bool, true, false, ◌&&◌, ◌||◌, List, [], ◌∷◌, leb, ltb, eqb, length, get_or}
+use Rattle.std.specs.Prelude.{ℕ, ◌+◌, ◌^◌, Bool, true, false, ◌&&◌, ◌||◌, List, [], ◌∷◌, leb, ltb, eqb, length, get_or}
 use Rattle.frame.specs.declared.Frame.{Frame}
 use Rattle.frame.specs.Layout.{values}
+
+-- "1 P1A, 2 FAST", "3 P1B", "4 PROPOSE", "5 P2A, 6 VERIFY", "7 P2B", "8 SUSPICION", "9 VIEWCHANGE, 10 LEADER"
+abbrev pub P1A : ℕ
+P1A = 1
+
+abbrev pub FAST : ℕ
+FAST = 2
+
+abbrev pub P1B : ℕ
+P1B = 3
+
+abbrev pub PROPOSE : ℕ
+PROPOSE = 4
+
+abbrev pub P2A : ℕ
+P2A = 5
+
+abbrev pub VERIFY : ℕ
+VERIFY = 6
+
+abbrev pub P2B : ℕ
+P2B = 7
+
+abbrev pub SUSPICION : ℕ
+SUSPICION = 8
+
+abbrev pub VIEWCHANGE : ℕ
+VIEWCHANGE = 9
+
+abbrev pub LEADER : ℕ
+LEADER = 10
+
+-- all of them
+abbrev pub all : List ℕ
+all = P1A ∷ FAST ∷ P1B ∷ PROPOSE ∷ P2A ∷ VERIFY ∷ P2B ∷ SUSPICION ∷ VIEWCHANGE ∷ LEADER ∷ []
+
+-- a set of kinds, each named once: kind k is bit k
+abbrev pub set_of : List ℕ → ℕ
+set_of [] = 0
+set_of (k ∷ ks) = 2 ^ k + set_of ks
 
 -- the words of the table
 abbrev yes : Bool

@@ -3,6 +3,8 @@ pub mod Hex
 pub mod Layout
 pub mod Kinds
 pub mod Format
+pub mod Example
+pub mod ExampleLaws
 pub mod Code
 pub mod HexLaws
 pub mod FormatLaws

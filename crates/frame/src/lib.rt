@@ -1,4 +1,6 @@
 // Frames: reading a line and writing one. A line is the digits of the header's fields and of the commands, and a line feed.
+#![tactic(auto)]
+
 ghost use Rattle.std.specs.Prelude.{◌≡◌, ◌+◌, ◌*◌, ◌≤◌, ◌<◌, min, [], length, get_or, replicate};
 ghost use Rattle.words.specs.Sizes as sizes;
 ghost use Rattle.frame.specs.Hex as hex;
@@ -15,8 +17,29 @@ pub const CAPACITY: usize = 2 * words::CAPACITY;
 // The longest line, with its line feed.
 pub const LONGEST: usize = 1061;
 
+// The kinds of frames.
+pub const P1A: u8 = 1;
+
+pub const FAST: u8 = 2;
+
+pub const P1B: u8 = 3;
+
+pub const PROPOSE: u8 = 4;
+
+pub const P2A: u8 = 5;
+
+pub const VERIFY: u8 = 6;
+
+pub const P2B: u8 = 7;
+
+pub const SUSPICION: u8 = 8;
+
+pub const VIEWCHANGE: u8 = 9;
+
+pub const LEADER: u8 = 10;
+
 // A frame by value: the first n words are its first list of commands, the next m its second, and those after them are 0.
-#[derive(Drop)]
+#[derive(Clone, Copy)]
 pub struct Frame {
     pub kind: u8,
     pub sender: u8,
@@ -30,7 +53,7 @@ pub struct Frame {
 }
 
 // A frame's fields but for its commands, and whether there is a frame; where there is none all are 0.
-#[derive(Drop)]
+#[derive(Clone, Copy)]
 pub struct Heading {
     pub found: bool,
     pub kind: u8,
@@ -44,14 +67,14 @@ pub struct Heading {
 }
 
 // What reading finds: a frame, or none, and then the frame is all 0.
-#[derive(Drop)]
+#[derive(Clone, Copy)]
 pub struct Reading {
     pub found: bool,
     pub frame: Frame,
 }
 
 // A number that digits spell, if they are digits.
-#[derive(Drop)]
+#[derive(Clone, Copy)]
 struct Spelled {
     good: bool,
     value: u64,
@@ -270,6 +293,15 @@ pub fn longest() -> usize
     ensures { result ≡ layout.longest }
 {
     LONGEST
+}
+
+// The kinds by their names, which are the numbers of their rows in the table of kinds.
+pub fn all_kinds() -> [u8; 10]
+    ensures { result ≡ kinds.all }
+{
+    [
+        P1A, FAST, P1B, PROPOSE, P2A, VERIFY, P2B, SUSPICION, VIEWCHANGE, LEADER,
+    ]
 }
 
 // The heading where there is no frame.

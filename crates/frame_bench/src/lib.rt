@@ -1,4 +1,6 @@
 // What the benchmark calls from C: `frame::read` and `frame::write` over plain values. It is linked into the benchmark alone.
+#![tactic(auto)]
+
 ghost use Rattle.std.specs.Prelude.{◌≡◌};
 ghost use Rattle.words.specs.Sizes.{limit};
 ghost use Rattle.frame.specs.Format.{reading_of, written_length, written};
@@ -9,7 +11,7 @@ use roster::{Ballot, View};
 
 // A frame as C lays it out, and whether there is one.
 #[repr(C)]
-#[derive(Drop)]
+#[derive(Clone, Copy)]
 pub struct Flat {
     pub found: u8,
     pub kind: u8,

@@ -1,48 +1,41 @@
 // Lines, read and written back. Standard input is the table: a row is a name, a colon, the line's bytes, a semicolon and a line feed.
-ghost use Rattle.std.specs.Prelude.{◌≡◌, ◌≤◌, length};
+#![tactic(auto)]
 
-use libc::{STDIN_FILENO, STDOUT_FILENO};
+ghost use Rattle.std.specs.Prelude.{◌≡◌, ◌≤◌, length, IfOk};
+
+use std::io;
+use std::io::Read;
 
 // Every kind, and P2B alone, as sets of kinds.
 const ALL: u16 = 0xffff;
 
 const VOTES: u16 = 1 << 7;
 
-fn put(text: &[u8]) {
-    io::write_all(STDOUT_FILENO, text);
+// How much of the input is read at most.
+const LONGEST_TABLE: usize = 65_536;
+
+fn put(rt: &impl Print, text: &[u8]) -> io::Result<()> {
+    rt.write_all(text)
 }
 
 // Whether a starts with b.
 fn starts(a: &[u8], b: &[u8]) -> bool {
-    let mut i: usize = 0;
-    while i < b.len() {
-        if a.len() <= i {
-            return false;
-        }
-        if a[i] != b[i] {
-            return false;
-        }
-        i += 1;
-    }
-    true
+    a.starts_with(b)
 }
 
 // Writes whether a line is read and, where it is, whether writing gives it back.
-fn show(name: &[u8], line: &[u8], kinds: u16) {
-    put(name);
+fn show(rt: &impl Print, name: &[u8], line: &[u8], kinds: u16) -> io::Result<()> {
+    put(rt, name)?;
     let reading = frame::read(words::LIMIT, line, kinds);
-    let found = reading.found;
-    if !found {
-        put(b": refused\n");
-        return;
+    if !reading.found {
+        return put(rt, b": refused\n");
     }
     let mut out = [0u8; frame::LONGEST];
     let n = frame::write(reading.frame, &mut out);
-    let same = starts(&out, line);
-    if same & (n == line.len()) {
-        put(b": read, and written back\n");
+    if starts(&out, line) && n == line.len() {
+        put(rt, b": read, and written back\n")
     } else {
-        put(b": read, and not written back\n");
+        put(rt, b": read, and not written back\n")
     }
 }
 
@@ -51,44 +44,56 @@ fn find(table: &[u8], from: usize, byte: u8) -> usize
     requires { from ≤ length table.now }
     ensures { (from ≤ result) × (result ≤ length table.now) }
 {
-    let mut i = from;
-    while i < table.len() {
-        if table[i] == byte {
-            return i;
-        }
-        i += 1;
+    match table[from..].iter().position(|b| *b == byte) {
+        Some(k) => from + k,
+        None => table.len(),
     }
-    i
 }
 
 // Shows each row of the table.
-fn rows(table: &[u8]) {
+fn rows(rt: &impl Print, table: &[u8]) -> io::Result<()> {
     let mut at: usize = 0;
     while at < table.len() {
         let colon = find(table, at, b':');
         let end = find(table, colon, b';');
         if table.len() <= end {
-            return;
+            return Ok(());
         }
         if colon < end {
-            show(&table[at..colon], &table[colon + 1..end], ALL);
+            show(rt, &table[at..colon], &table[colon + 1..end], ALL)?;
         }
         at = end + 2;
     }
+    Ok(())
 }
 
 // A long input with no line, and a vote where it is and is not taken.
-fn others() {
+fn others(rt: &impl Print) -> io::Result<()> {
     let long = [b'0'; 100000];
-    show(b"100,000 bytes without a line feed", &long, ALL);
+    show(rt, b"100,000 bytes without a line feed", &long, ALL)?;
     let vote = b"0702000000000000000100000000000701000101000100070000\n";
-    show(b"P2B where P2B is not taken", vote, ALL - VOTES);
-    show(b"P2B where only P2B is taken", vote, VOTES);
+    show(rt, b"P2B where P2B is not taken", vote, ALL - VOTES)?;
+    show(rt, b"P2B where only P2B is taken", vote, VOTES)
 }
 
-fn main() {
-    let mut table = io::large_buffer();
-    let n = io::read_full(STDIN_FILENO, &mut table);
-    rows(&table[..n]);
-    others();
+// Reads until the table is full or the input ends; how many bytes came.
+fn read_full(input: &mut impl Read, table: &mut [u8]) -> io::Result<usize>
+    ensures { IfOk result (λ n. n ≤ length table.new) }
+{
+    let mut at: usize = 0;
+    while at < table.len() {
+        let n = input.read(&mut table[at..])?;
+        if n == 0 {
+            return Ok(at);
+        }
+        at += n;
+    }
+    Ok(at)
+}
+
+fn main(rt: HostRuntime) -> io::Result<()> {
+    let mut table = [0u8; LONGEST_TABLE];
+    let n = read_full(&mut rt.stdin(), &mut table)?;
+    rows(&rt, &table[..n])?;
+    others(&rt)
 }

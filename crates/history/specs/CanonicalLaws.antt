@@ -18,6 +18,7 @@ pub data Takeable (d : ℕ) (h : List ℕ) : Type 0 where
 
 apart_mem : (c : ℕ) (l : List ℕ) {d : ℕ} → Memᴰ d (apart c l) → (conflict d c ≡ false) × Memᴰ d l
 unfolding apart
+apart_mem c [] {d = d} m = elim m [ ]
 apart_mem c (x ∷ l) {d} m = go (conflict x c) refl (λ n. apart_mem c l n)
   where
     Below : Type 0
@@ -33,6 +34,7 @@ apart_mem c (x ∷ l) {d} m = go (conflict x c) refl (λ n. apart_mem c l n)
 
 mem_apart : (c : ℕ) (l : List ℕ) {d : ℕ} → conflict d c ≡ false → Memᴰ d l → Memᴰ d (apart c l)
 unfolding apart
+mem_apart c [] {d = d} q x'' = elim x'' [ ]
 mem_apart c (x ∷ l) {d} q (Memᴰ.head p) = rw (ap (λ (y : ℕ). conflict y c) (sym p) ∙ q) (Memᴰ.head p)
 mem_apart c (x ∷ l) {d} q (Memᴰ.tail n) = go (conflict x c) refl (mem_apart c l q n)
   where
@@ -42,6 +44,7 @@ mem_apart c (x ∷ l) {d} q (Memᴰ.tail n) = go (conflict x c) refl (mem_apart 
 
 free_takeable : (h : List ℕ) {d : ℕ} → Memᴰ d (free h) → Takeable d h
 unfolding free
+free_takeable [] {d = d} x' = elim x' [ ]
 free_takeable (c ∷ h) (Memᴰ.head e) = off (here e)
 free_takeable (c ∷ h) {d} (Memᴰ.tail n) = let r = apart_mem c (free h) n in under r.0 (free_takeable h r.1)
   where
@@ -70,6 +73,7 @@ least_mem c (d ∷ l) = go (dec_le d (least c l)) (least_mem c l)
 
 least_le : (c : ℕ) (l : List ℕ) {d : ℕ} → Memᴰ d (c ∷ l) → least c l ≤ d
 unfolding least
+least_le c [] {d = d} (Memᴰ.tail x5) = elim x5 [ ]
 least_le c [] (Memᴰ.head e) = omega (arith, e)
 least_le c (x ∷ l) {d} (Memᴰ.head e) = let r = least_le c l {d = d} (Memᴰ.head e) in omega arith
 least_le c (x ∷ l) {d} (Memᴰ.tail (Memᴰ.head e)) = omega (arith, e)

@@ -14,6 +14,7 @@ pub data Clear (c : ℕ) : List ℕ → Type 0 where
   more : {d : ℕ} {h : List ℕ} → conflict c d ≡ false → Clear c h → Clear c (d ∷ h)
 
 pub clear_takes : {c : ℕ} {h k : List ℕ} → Clear c h → Takes c h k → ⊥
+clear_takes {c = c} {k = k} empty x3 = elim x3 [ ]
 clear_takes (more p r) (here e) = no_pass e p
 clear_takes (more p r) (there q t) = clear_takes r t
 

@@ -77,6 +77,7 @@ data Behind (e c : ℕ) (m : List ℕ) : Type 0 where
   last : e ≡ c → Clear e m → Behind e c m
 
 behind : {e : ℕ} (c : ℕ) (m : List ℕ) {k : List ℕ} → Takes e (m ++ c ∷ []) k → Behind e c m
+behind {e = e} c [] (there {k = k} p t) = elim t [ ]
 behind c [] (here p) = last p empty
 behind c (d ∷ m) (here p) = inside (off (here p))
 behind {e} c (d ∷ m) (there p t) = go (behind c m t)
@@ -89,6 +90,7 @@ insert_settled : (c : ℕ) {m : List ℕ} → Settled m → Settled (insert c m)
 insert_settled c end = rw (insert_nil c) (first (λ d x. only x) end)
   where
     only : {d : ℕ} → Takeable d (c ∷ []) → c ≤ d
+    only {d = d} (off (there {k = k} _ x10)) = elim x10 [ ]
     only (off (here e)) = omega (arith, e)
 insert_settled c (first {c = d} {h = m} s r) = go (clear c (d ∷ m) && ltb c d) refl (insert_settled c r)
   where
@@ -125,7 +127,7 @@ arrange_equivalent m (c ∷ h) =
 arrange_settled : {m : List ℕ} (h : List ℕ) → Settled m → Settled (arrange m h)
 unfolding arrange
 arrange_settled [] s = s
-arrange_settled (c ∷ h) s = arrange_settled h (insert_settled c s)
+arrange_settled {m = m} (c ∷ h) s = arrange_settled {m = insert c m} h (insert_settled c s)
 
 -- insertion gives the canonical order
 pub arrange_canonical : (h : List ℕ) → arrange [] h ≡ canonical h

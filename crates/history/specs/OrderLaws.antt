@@ -28,6 +28,7 @@ mem_takes (there p t) (Memᴰ.head q) = Memᴰ.head q
 mem_takes (there p t) (Memᴰ.tail m) = Memᴰ.tail (mem_takes t m)
 
 clear_mem : {c d : ℕ} {h : List ℕ} → Clear c h → Memᴰ d h → conflict c d ≡ false
+clear_mem {c = c} {d = d} Rattle.history.specs.CoherenceLaws.empty x3 = elim x3 [ ]
 clear_mem {c} (more p r) (Memᴰ.head e) = ap (conflict c) e ∙ p
 clear_mem (more p r) (Memᴰ.tail m) = clear_mem r m
 
@@ -59,6 +60,7 @@ absent_ne c e m p = true≢false (sym (same_refl c) ∙ ap (same_request c) (sym
 
 same_order' : {c d : ℕ} {g h n : List ℕ} → repeated g ≡ false → conflict c d ≡ true → Below g n → Below h n → Before c d g → Memᴰ d h → Before c d h
 unfolding repeated
+same_order' {c = c} {d = d} {h = h} u q Rattle.history.specs.ExtensionLaws.none hn x16 n = elim x16 [ ]
 same_order' {c} {d} {h = h} u q (take {c = e} {g = g} t b) hn (at p m) n = go (residual t hn)
   where
     apart' : d ≡ e → ⊥

@@ -2,7 +2,8 @@
 use Rattle.std.specs.Prelude.{◌≡◌, refl, false, List, ◌∷◌, ◌++◌, ℕ, suc, length}
 use Rattle.std.proofs.Common.{sym, ap, ◌∙◌, subst, true≢false}
 use Rattle.command.specs.Command.{conflict}
-use Rattle.command.specs.CommandLaws.{conflict_refl, conflict_sym}
+use Rattle.command.specs.CommandLaws.{conflict_refl}
+use Rattle.command.proofs.KindsLaws.{conflict_sym}
 use Rattle.history.specs.History.{Equivalent, same, swap, keep, trans}
 
 -- c can be taken off the front of h, which leaves k

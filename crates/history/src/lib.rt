@@ -18,7 +18,7 @@ const FEW: usize = 4;
 
 // A history by value: the first `count` words. The words after them mean nothing.
 #[repr(C)]
-#[derive(Drop)]
+#[derive(Clone, Copy)]
 pub struct History {
     pub count: u8,
     pub words: [u64; words::CAPACITY],

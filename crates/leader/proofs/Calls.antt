@@ -24,7 +24,7 @@ use Rattle.merge.specs.AppendingLaws.{take_appended}
 use Rattle.table.specs.Table.{table_of, stored_in}
 use Rattle.table.specs.TableLaws.{stored_in_lem}
 use Rattle.proposal.specs.Proposal.{proposal, remaining}
-use Rattle.proposal.specs.ProposalLaws.{proposal_short}
+use Rattle.proposal.proofs.ProposalLaws.{proposal_short}
 use Rattle.refusal.specs.declared.Refusal.{Refusal}
 use Rattle.refusal.specs.declared.Answer.{Answer}
 use Rattle.refusal.specs.declared.Answer.TheVariants.{Accepted}

@@ -1,4 +1,5 @@
 -- What the contracts of `leader` cite; `code` is what only the code's own functions cite.
 pub mod Leader
+pub mod NeedsLaws
 pub mod Parts
 pub mod Code

@@ -1,4 +1,6 @@
 // The leader: it collects commands, opens ballots, and proposes a history of the reports that a quorum of sites sends it.
+#![tactic(auto)]
+
 mod opening;
 mod report;
 mod request;
@@ -20,7 +22,7 @@ use table::Table;
 
 // What a leader keeps.
 #[repr(C)]
-#[derive(Drop)]
+#[derive(Clone, Copy)]
 pub struct State {
     // The last view that it took; 0 at first.
     pub view: View,
@@ -37,7 +39,7 @@ pub struct State {
 }
 
 // The answer to a call, how many bytes of the buffer are to be sent, and the state after it.
-#[derive(Drop)]
+#[derive(Clone, Copy)]
 pub struct Outcome {
     pub answer: Answer,
     pub sent: usize,
@@ -45,7 +47,7 @@ pub struct Outcome {
 }
 
 // A state's numbers, all but its lists and their counts; a call in place takes them by value.
-#[derive(Drop)]
+#[derive(Clone, Copy)]
 pub struct Marks {
     pub view: View,
     pub ballot: Ballot,
@@ -54,7 +56,7 @@ pub struct Marks {
 }
 
 // What a call in place gives: the answer, how many bytes of the buffer are to be sent, and the marks after it.
-#[derive(Drop)]
+#[derive(Clone, Copy)]
 pub struct Settled {
     pub answer: Answer,
     pub sent: usize,

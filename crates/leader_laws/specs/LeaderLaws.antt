@@ -14,7 +14,7 @@ use Rattle.basics.specs.Bools.{and_left, and_right, or_left, or_right, or_either
 use Rattle.command.specs.Command.{all_valid, wrong, all_by}
 use Rattle.command.specs.CommandLaws.{right_commands}
 use Rattle.history.specs.declared.History.{History}
-use Rattle.history.specs.History.{Extends, repeated, is_canonical, valid_history}
+use Rattle.history.specs.History.{Extends, repeated, valid_history}
 use Rattle.history.specs.ValidLaws.{valid_nil, valid_parts, parts_valid}
 use Rattle.words.specs.Sizes.{limit, capacity}
 use Rattle.history.specs.Words.{commands, stored}
@@ -27,19 +27,9 @@ use Rattle.table.specs.Table.{sites, stored_at, valid_table}
 use Rattle.table.specs.TableLaws.{Sized, row_stored, row_stored_other}
 use Rattle.table.specs.ValidLaws.{valid_history_lem, valid_stored_lem}
 use Rattle.proposal.specs.Proposal.{report, longest_to, remaining}
-use Rattle.proposal.specs.ProposalLaws.{
-  Longest,
-  report_marked,
-  report_keeps,
-  longest_is,
-  longest_short,
-  proposal_extends,
-  proposal_valid,
-  remaining_holds,
-  remaining_short,
-  kept_or_proposed,
-}
-use Rattle.proposal.specs.ProposalLaws as proposals
+use Rattle.proposal.specs.ProposalLaws.{Longest}
+use Rattle.proposal.proofs.ProposalLaws.{report_marked, report_keeps, longest_is, longest_short, proposal_extends, proposal_valid, remaining_holds, remaining_short, kept_or_proposed}
+use Rattle.proposal.proofs.ProposalLaws as proposals
 use Rattle.refusal.specs.declared.Refusal.{Refusal}
 use Rattle.refusal.specs.declared.Answer.TheVariants.{Accepted}
 use Rattle.refusal.specs.declared.Refusal.TheVariants.{Config, Form, Sender, Stale, Proof, Command, History as Improper, Reused, Nothing, Full}
@@ -48,6 +38,7 @@ use Rattle.refusal.specs.Rules.{Rule, ◌gives◌, judged}
 use Rattle.refusal.specs.Order.{in_order, follows}
 use Rattle.refusal.specs.JudgedLaws.{GivenFirst, Judgement, refused, accepts, judgement, test_of, no_test}
 use Rattle.content.specs.Content.{disordered}
+use Rattle.content.specs.ContentLaws.{not_disordered}
 use Rattle.frame.specs.declared.Frame.{Frame}
 use Rattle.frame.specs.Layout.{first, second}
 use Rattle.frame.specs.FormatLaws.{read_n, read_m}
@@ -383,23 +374,20 @@ pub second_short : (line : List ℕ) → length (second (received line)) ≤ lim
 second_short line = rw length-take (omega (arith, read_m limit line taken))
 
 -- right commands in order are a valid history
-in_order : (h : List ℕ) → wrong h ≡ false → disordered h ≡ false → valid_history h ≡ true
-unfolding disordered
-in_order h p q =
-    parts_valid
-    (record { commands = right_commands h p; distinct = or_left (repeated h) _ q; in_order = not-false (is_canonical h) (or_right (repeated h) _ q) })
+in_order_lem : (h : List ℕ) → wrong h ≡ false → disordered h ≡ false → valid_history h ≡ true
+in_order_lem h p q = parts_valid (not_disordered h (right_commands h p) q)
 
 module _ {r : Roster} {own room : ℕ} {s : State} {line : List ℕ} (a : Reports r own room s line) where
   -- the histories of an accepted P1B are valid
   pub first_valid : valid_history (first (received line)) ≡ true
   first_valid =
       let h = first (received line) in
-      in_order h (or_left (wrong h) _ a.right) (or_left (disordered h) _ a.proper)
+      in_order_lem h (or_left (wrong h) _ a.right) (or_left (disordered h) _ a.proper)
 
   pub second_valid : valid_history (second (received line)) ≡ true
   second_valid =
       let h = first (received line) in
-      in_order (second (received line)) (or_right (wrong h) _ a.right) (or_right (disordered h) _ a.proper)
+      in_order_lem (second (received line)) (or_right (wrong h) _ a.right) (or_right (disordered h) _ a.proper)
 
   -- so its report leaves a state that may be lent
   pub report_lendable : Lendable r.n (reporting s (received line))

@@ -24,7 +24,7 @@ use Rattle.table.specs.declared.Table.{Table}
 use Rattle.table.specs.FitLaws.{each_row, each_stored, each_empty}
 use Rattle.table.specs.ValidLaws.{valid_empty}
 use Rattle.proposal.specs.Proposal.{remaining}
-use Rattle.proposal.specs.ProposalLaws.{report_keeps, proposal_fits, remaining_all_valid, remaining_distinct, remaining_short, remaining_fits}
+use Rattle.proposal.proofs.ProposalLaws.{report_keeps, proposal_fits, remaining_all_valid, remaining_distinct, remaining_short, remaining_fits}
 use Rattle.frame.specs.declared.Frame.{Frame}
 use Rattle.frame.specs.Layout.{first}
 use Rattle.frame.specs.Kinds.{uses, is_kind, unused_zero, zero_unless}
@@ -32,7 +32,7 @@ use Rattle.frame.specs.Format.{proper, writable}
 use Rattle.site.specs.Site.{seated, is_set}
 use Rattle.site.specs.SiteLaws.{seated_is}
 use Rattle.site.specs.Message.{message}
-use Rattle.site.specs.MessageLaws.{read_first_fits, read_second_fits, read_view_fits, message_writable}
+use Rattle.site.specs.MessageLaws.{read_first_fits, read_second_fits, read_view_fits, message_writable, bare_writable}
 use Rattle.site.specs.Reply.{sends}
 use Rattle.site.specs.ReplyLaws.{silent_sends, sends_same, Sent, sent_line}
 use Rattle.leader.specs.declared.State.{State}
@@ -163,12 +163,8 @@ module _ {own : ℕ} {s : State} (f : Fits own s) where
   invitation_writable ballot fast l = go (is_set fast)
     where
       go : (b : Bool) → writable (message (cond b 2 1) own s.view ballot (record { 0 = 0 }) 0 [] []) ≡ true
-      go true =
-          message_writable 2 own s.view ballot (record { 0 = 0 }) 0 (omega arith) (omega arith) none none (lit< tt) f.own_fits f.view_fits
-          l (lit< tt) (lit< tt) (fast_proper own s.view ballot)
-      go false =
-          message_writable 1 own s.view ballot (record { 0 = 0 }) 0 (omega arith) (omega arith) none none (lit< tt) f.own_fits f.view_fits
-          l (lit< tt) (lit< tt) (p1a_proper own s.view ballot)
+      go true = bare_writable 2 own s.view ballot (record { 0 = 0 }) 0 (lit< tt) f.own_fits f.view_fits l (lit< tt) (lit< tt) (fast_proper own s.view ballot)
+      go false = bare_writable 1 own s.view ballot (record { 0 = 0 }) 0 (lit< tt) f.own_fits f.view_fits l (lit< tt) (lit< tt) (p1a_proper own s.view ballot)
 
 module _ {own : ℕ} {s : State} (f : Fits own s) where
   -- each frame that a step sends has a line

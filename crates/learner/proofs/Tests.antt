@@ -2,22 +2,21 @@
 use mathlib.Core.Path.{◌≡◌, refl, sym, ap, ◌∙◌, subst}
 use mathlib.Core.Logic.{⊎_elim, ◌≢◌}
 use mathlib.Core.Bool.{Bool, true, false, cond}
-use mathlib.Core.List.{List, [], ◌∷◌, ◌++◌, append-nil}
+use mathlib.Core.List.{List, [], ◌∷◌, ◌++◌}
 use Prim.Native.Nat.{ℕ, ◌≤◌}
 use native.Mathlib.Omega.{arith}
 use native.Mathlib.Decide.{ℕ_discrete}
-use borrow.Author.Tests.{le-leb, lt-leb, leb-false, not-false, eq-eqb, ne_eqb}
+use borrow.Author.Tests.{leb-false, eq-eqb, ne_eqb}
 use lib.Dec.{leb}
-use lib.ListN.{length, length-take, length-append}
-use Rattle.basics.specs.Bools.{lt_or_le, true_or_false}
+use lib.ListN.{length, length-take}
+use Rattle.basics.specs.Bools.{true_or_false}
 use Rattle.roster.specs.declared.Roster.{Roster}
 use Rattle.roster.specs.Roster.{quorum}
 use Rattle.roster.specs.RosterLaws.{valid_figures}
 use Rattle.roster.specs.Sites.{count_to}
 use Rattle.roster.specs.SitesLaws.{count_cong}
-use Rattle.history.specs.History.{Equivalent, Extends, extends}
-use Rattle.history.specs.TakesLaws.{equivalent_sym, equivalent_length}
-use Rattle.history.specs.ExtensionLaws.{extends_refl, extends_along, extends_length, extends_sound, extends_complete, extends_refuted}
+use Rattle.history.specs.History.{extends}
+use Rattle.history.specs.ExtensionLaws.{extends_complete}
 use Rattle.history.specs.Words.{limit, extends_within}
 use Rattle.history.specs.WordsLaws.{extends_within_lem}
 use Rattle.merge.specs.declared.Merged.{Merged}
@@ -55,7 +54,7 @@ use Rattle.learner.specs.Learner.{
   rules,
   step,
 }
-use Rattle.learner.specs.StepLaws.{config_sound, vote_enters, vote_stored, vote_stays}
+use Rattle.learner.proofs.StepLaws.{config_sound, vote_enters, vote_stored, vote_stays}
 use Rattle.learner.specs.Code.Vote.{checks, Passed, concluded, stands}
 
 -- the code's test of extension, of a list of at most 64 commands

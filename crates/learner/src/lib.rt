@@ -1,4 +1,6 @@
 // The learner: it stores each site's votes, and learns a history that a quorum of sites stand behind.
+#![tactic(auto)]
+
 ghost use Rattle.std.specs.Prelude.{cond, [], ◌∷◌, ◌≡◌, ◌≤◌, leb, length};
 ghost use Rattle.roster.specs.Roster.{quorum};
 ghost use Rattle.roster.specs.Sites.{count_to};
@@ -19,14 +21,14 @@ use table::Table;
 
 // One stored history a site, and what is learned.
 #[repr(C)]
-#[derive(Drop)]
+#[derive(Clone, Copy)]
 pub struct State {
     pub entries: Table,
     pub learned: History,
 }
 
 // The answer to a line, the number of supporters of the arrived history, and the state after it.
-#[derive(Drop)]
+#[derive(Clone, Copy)]
 pub struct Outcome {
     pub answer: Answer,
     pub supporters: u8,
@@ -34,7 +36,7 @@ pub struct Outcome {
 }
 
 // What a call in place answers: the answer to a line, and the number of supporters of the arrived history.
-#[derive(Drop)]
+#[derive(Clone, Copy)]
 pub struct Answered {
     pub answer: Answer,
     pub supporters: u8,

@@ -1,5 +1,8 @@
-// The lines of the learner's program: the roster that the first line gives, a line kept while it arrives, and an answer as a line.
-ghost use Rattle.std.specs.Prelude.{◌≡◌, true, ◌+◌, ◌≤◌, length, take};
+// The lines of the learner's program: the roster that the first line gives, a line kept while it arrives and pulled out of input in any pieces,
+// text put behind text, and an answer as a line.
+#![tactic(auto)]
+
+ghost use Rattle.std.specs.Prelude.{◌≡◌, true, ◌+◌, ◌-◌, ◌≤◌, length, take, drop};
 ghost use Rattle.std.proofs.lemmas.List.Edits.{sets};
 ghost use Rattle.frame.specs.Hex as hex;
 ghost use Rattle.lines.specs.Lines as spec;
@@ -13,11 +16,22 @@ const SPACE: u8 = 32;
 
 const ZERO: u8 = 48;
 
+// The length of the longest answer, with its line feed.
+pub const LONGEST_ANSWER: usize = 8;
+
 // A line by value: the first `len` bytes are its characters, and those after them are 0.
-#[derive(Drop)]
+#[derive(Clone, Copy)]
 pub struct Text {
     pub len: usize,
     pub bytes: [u8; 8],
+}
+
+// How much of a line is kept once some bytes of input were pulled into it, where the bytes after those start, and whether the line is whole.
+#[derive(Clone, Copy)]
+pub struct Pulled {
+    pub len: usize,
+    pub next: usize,
+    pub whole: bool,
 }
 
 // The first n bytes, or all of them if there are fewer.
@@ -89,6 +103,57 @@ pub fn push(line: &mut [u8], len: usize, b: u8) -> usize
     len + 1
 }
 
+// How many bytes there is room for behind the first `used`.
+pub fn room(out: &[u8], used: usize) -> usize
+    ensures { result ≡ length out.now - used }
+{
+    if out.len() < used {
+        return 0;
+    }
+    out.len() - used
+}
+
+// Puts `text` behind the first `used` bytes, as much of it as there is room for, and answers how many are in use then.
+fn put(out: &mut [u8], used: usize, text: &[u8]) -> usize
+    ensures { (result ≡ spec.kept_length out.old used text.now) × (out.new ≡ spec.kept out.old used text.now) }
+{
+    let mut end = used;
+    let mut i: usize = 0;
+    while i < text.len() {
+        let b = text[i];
+        i += 1;
+        end = push(out, end, b);
+    }
+    end
+}
+
+// Puts the bytes from `from` on, through the first line feed, behind the first `len` bytes of the line, as many as there is room for: so a line
+// is pulled out of input that arrives in any pieces. It is whole if the line feed came.
+pub fn pull(line: &mut [u8], len: usize, bytes: &[u8], from: usize) -> Pulled
+    ensures { (result ≡ spec.pulled line.old len (drop from bytes.now) from) × (line.new ≡ spec.kept line.old len (spec.through (drop from bytes.now))) }
+{
+    let mut end = len;
+    let mut next = from;
+    while next < bytes.len() {
+        let b = bytes[next];
+        next += 1;
+        end = push(line, end, b);
+        let ends = b == LINE_FEED;
+        if ends {
+            return Pulled {
+                len: end,
+                next,
+                whole: true,
+            };
+        }
+    }
+    Pulled {
+        len: end,
+        next,
+        whole: false,
+    }
+}
+
 // Writes a number in decimal from `at` on, and answers where it ends.
 fn put_decimal(bytes: &mut [u8], at: usize, n: u8) -> usize
     requires { at + 3 ≤ length bytes.old }
@@ -124,4 +189,14 @@ pub fn answer_text(number: u8, supporters: u8) -> Text
         len: end + 1,
         bytes,
     }
+}
+
+// Puts the line that answers a line, the answer's number and the supporters, behind the first `used` bytes, as much of it as there is room for,
+// and answers how many are in use then.
+pub fn put_answer(out: &mut [u8], used: usize, number: u8, supporters: u8) -> usize
+    ensures { (result ≡ spec.kept_length out.old used (spec.answer_line number supporters)) × (out.new ≡ spec.kept out.old used (spec.answer_line number supporters)) }
+{
+    let text = answer_text(number, supporters);
+    let bytes: &[u8] = &text.bytes;
+    put(out, used, first(bytes, text.len))
 }

@@ -68,7 +68,7 @@ module _ (b : List ℕ) (k : ℕ) (h : List ℕ) (n : ℕ) (w : List ℕ) (p : n
 pub each_appended : {g h : List ℕ} → EachFits g → EachFits h → EachFits (appended g h)
 unfolding appended
 each_appended v none = v
-each_appended {g} v (more {c = c} p w) = each_appended (next (present c g)) w
+each_appended {g = g} v (more {c = c} p w) = each_appended {g = cond (present c g) g (g ++ c ∷ [])} (next (present c g)) w
   where
     next : (b : Bool) → EachFits (cond b g (g ++ c ∷ []))
     next true = v

@@ -3,6 +3,7 @@ use Rattle.std.specs.Prelude.{◌≡◌, refl, false, List, [], ◌∷◌, ℕ}
 use Rattle.history.specs.History.{Least, repeated}
 use Rattle.history.specs.ExtensionLaws.{extends_refl, extends_trans}
 use Rattle.history.specs.CoherenceLaws.{ExtendsAll, no_more, and, CompatibleWith, no_other, other, Pairwise, no_pair, pairs, least_with}
+use Rattle.merge.specs.Merge.{appended}
 use Rattle.merge.specs.MergeLaws.{appended_least, appended_distinct}
 
 -- each of some lists repeats no request
@@ -20,7 +21,7 @@ spread l (common_history u (and x xs)) = common_history u (and (extends_trans x 
 collect : {g : List ℕ} {hs : List (List ℕ)} → repeated g ≡ false → AllDistinct hs → Pairwise hs → CompatibleWith g hs → CommonHistory (g ∷ hs)
 collect {g} u none no_pair no_other = common_history u (and (extends_refl g) no_more)
 collect {g} u (also {h = h} v vs) (pairs qs rs) (other p ps) =
-    spread (appended_least v p) (collect (appended_distinct g h u) vs rs (least_with (appended_least v p) p ps qs))
+    spread (appended_least v p) (collect {g = appended g h} (appended_distinct g h u) vs rs (least_with (appended_least v p) p ps qs))
 
 pub common_of_histories : {hs : List (List ℕ)} → AllDistinct hs → Pairwise hs → CommonHistory hs
 unfolding repeated

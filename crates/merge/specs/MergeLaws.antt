@@ -6,7 +6,7 @@ use Rattle.basics.specs.Bools.{and_left, and_right, or_left, or_right}
 use Rattle.command.specs.Command.{same_request, valid_command, all_valid}
 use Rattle.command.specs.CommandLaws.{same_refl, same_sym, same_conflict}
 use Rattle.history.specs.History.{Equivalent, same, trans, Extends, Compatible, Least, present, repeated, canonical, is_canonical, extends}
-use Rattle.history.specs.TakesLaws.{Takes, here, takes_equivalent, equivalent_sym, equivalent_behind, equivalent_refl, equivalent_length}
+use Rattle.history.specs.TakesLaws.{Takes, here, takes_equivalent, equivalent_sym, equivalent_behind, equivalent_refl}
 use Rattle.history.specs.ExtensionLaws.{Below, take, below_extends, extends_below, extends_refl, extends_trans, extends_along, extended_along, extends_append, extends_sound, extends_complete, extends_antisym}
 use Rattle.history.specs.CoherenceLaws.{Clear, empty, more, clear_past, Residual, held, lacked, residual}
 use Rattle.history.specs.CanonicalLaws.{canonical_equivalent, canonical_unique, canonical_is_canonical, is_canonical_lem}

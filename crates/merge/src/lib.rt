@@ -1,4 +1,6 @@
 // Merging two histories, and appending commands that are not there yet.
+#![tactic(auto)]
+
 ghost use Rattle.std.specs.Prelude.{◌≡◌, ◌++◌, min, ◌≤◌, length, drop};
 ghost use Rattle.words.specs.Sizes.{capacity};
 ghost use Rattle.merge.specs.Merge as spec;
@@ -8,7 +10,7 @@ ghost use Rattle.merge.specs.Merged as answer;
 use history::History;
 
 // What merging answers: that there is no common extension, that the merge is too long, or else the merge.
-#[derive(Drop)]
+#[derive(Clone, Copy)]
 pub struct Merged {
     pub split: bool,
     pub full: bool,

@@ -1,2 +1,3 @@
 -- Laws that the proofs of this crate share.
 mod Turns
+pub mod ProposalLaws

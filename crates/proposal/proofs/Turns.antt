@@ -16,7 +16,7 @@ use Rattle.merge.specs.Appending.{holds}
 use Rattle.merge.specs.AppendingLaws.{take_appended}
 use Rattle.proposal.specs.Proposal.{longer, longest_to, filled, filled_to, assembled, proposal, remaining}
 use Rattle.proposal.specs.Code.Work.{Begins}
-use Rattle.proposal.specs.ProposalLaws.{longest_suc, filled_short, filled_cut, filled_to_cut}
+use Rattle.proposal.proofs.ProposalLaws.{longest_suc, filled_short, filled_cut, filled_to_cut}
 
 -- ---- the longest
 

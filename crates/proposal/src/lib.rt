@@ -1,4 +1,6 @@
 // The leader's proposal: the longest of the proven histories that were reported, and after it the held ones and what is pending.
+#![tactic(auto)]
+
 ghost use Rattle.std.specs.Prelude.{◌≡◌, min, ◌≤◌, length, take};
 ghost use Rattle.history.specs.Words.{capacity, stored};
 ghost use Rattle.proposal.specs.Proposal as spec;

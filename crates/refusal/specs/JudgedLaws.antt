@@ -1,5 +1,5 @@
 -- A judgement is either refused by some rule, or accepted with every test false.
-use Rattle.std.specs.Prelude.{◌≡◌, refl, Bool, true, false, cond, eqb, List, [], ◌∷◌}
+use Rattle.std.specs.Prelude.{◌≡◌, refl, ◌↔◌, Bool, true, false, cond, eqb, List, [], ◌∷◌}
 use Rattle.std.proofs.Common.{◌∙◌}
 use Rattle.refusal.specs.Refusal.{number}
 use Rattle.refusal.specs.declared.Refusal.{Refusal}
@@ -39,6 +39,10 @@ judgement {A} refuse accepted (test gives r ∷ rules) = go test refl (judgement
 unfoldable pub test_of : Refusal → List Rule → Bool
 test_of e [] = false
 test_of e (test gives r ∷ rules) = cond (eqb (number e) (number r)) test (test_of e rules)
+
+-- "needs P, else" e: by these rules e's test is false exactly where P holds
+abbrev pub Needs : Refusal → Type 0 → List Rule → Type 0
+Needs e P rules = (test_of e rules ≡ false) ↔ P
 
 -- where no rule holds, the test of each refusal is false
 pub no_test : {rules : List Rule} → NoneHolds rules → (e : Refusal) → test_of e rules ≡ false

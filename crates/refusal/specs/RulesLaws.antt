@@ -37,6 +37,22 @@ module _ {A : Type 0} (refuse : Refusal → A) (accepted : A) where
   unfolding judged
   judged_next test r rules e = rw e
 
+-- the columns No. and Name of document 01's table of refusals
+pub numbers_are : (number Config ≡ 1)
+    × (number Form ≡ 2)
+    × (number Sender ≡ 3)
+    × (number Stale ≡ 4)
+    × (number Proof ≡ 5)
+    × (number Command ≡ 6)
+    × (number History ≡ 7)
+    × (number Behind ≡ 8)
+    × (number Reused ≡ 9)
+    × (number Contradiction ≡ 10)
+    × (number Split ≡ 11)
+    × (number Nothing ≡ 12)
+    × (number Full ≡ 13)
+numbers_are = (refl, refl, refl, refl, refl, refl, refl, refl, refl, refl, refl, refl, refl)
+
 -- an accepted frame answers 0, and no refusal does
 pub number_pos : (r : Refusal) → 0 < number r
 number_pos Config = lit< tt

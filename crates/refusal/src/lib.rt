@@ -1,10 +1,12 @@
 // The refusals and what a step answers, each with its number.
+#![tactic(auto)]
+
 ghost use Rattle.std.specs.Prelude.{cond, ◌≡◌};
 ghost use Rattle.refusal.specs.declared.Answer.TheVariants.{Refused};
 ghost use Rattle.refusal.specs.Refusal as spec;
 
 // The refusals, in the order of their numbers.
-#[derive(Drop)]
+#[derive(Clone, Copy)]
 pub enum Refusal {
     Config,
     Form,
@@ -43,7 +45,7 @@ pub fn number(r: Refusal) -> u8
 }
 
 // What a step answers: accepted, or why not.
-#[derive(Drop)]
+#[derive(Clone, Copy)]
 pub enum Answer {
     Accepted,
     Refused(Refusal),

@@ -1,6 +1,6 @@
 -- Views and ballots compared. "Ballots and views are both 32-bit counts from 0; sites have logged a view as a ballot, and the two counts are to
 -- be unmistakable everywhere": each comparison takes two of one type.
-use Rattle.std.specs.Prelude.{Bool, ℕ, leb, ltb, eqb}
+use Rattle.std.specs.Prelude.{Bool, leb, ltb, eqb}
 use Rattle.roster.specs.declared.View.{View}
 use Rattle.roster.specs.declared.Ballot.{Ballot}
 

@@ -6,4 +6,3 @@ pub mod MaskLaws
 pub mod Roster
 pub mod Counts
 pub mod RosterLaws
-pub mod QuorumLaws

@@ -3,7 +3,7 @@
 use Rattle.std.specs.Prelude.{ℕ, zero, suc, ◌+◌, ◌*◌, ◌/◌, ◌%◌, ◌^◌, ◌≤◌, ◌<◌, ◌≡◌, refl, ◌↔◌, ◌≢◌, Bool, true, false, not, cond, ◌&&◌, ◌||◌, leb, ltb, eqb}
 use Rattle.std.proofs.Common.{zero-le, sym, ap, ap₂, ◌∙◌, subst, ⊎_elim, le_trans, le-add_right, lt_of_lt_of_le, not-suc-le-zero, zero-lt-suc, mod-lt, mod-eq_of_lt, pow-suc, mul_comm, add-zero, add_comm, le_of_eq, lt_irrefl, le-add_left, le_refl, lt-suc_self, le-div_iff_mul-le, one-mul, add-suc, add-mul, add-one, arith, pow_pos, pow_mono, shr-shr, shr_lt, leb-true, leb-false, le-leb, lt-ltb, le-ltb}
 use Rattle.std.proofs.Math.Bool.{and-false, or-true, or-false}
-use Rattle.std.proofs.lemmas.Bool.{false≢true, lt-leb}
+use Rattle.std.proofs.lemmas.Bool.{false≢true, lt-leb, not-false}
 use Rattle.std.proofs.Math.Nat.{le_dest, div-eq_of_lt}
 use Rattle.std.proofs.Math.Decide.{ℕ_discrete}
 use Rattle.std.proofs.Math.Arith.{lt-one, digits_lt, lt_of_le-ne}
@@ -12,10 +12,10 @@ use Rattle.std.proofs.lemmas.Nat.Bits.{and_high}
 use Rattle.std.proofs.lemmas.Nat.{or_shr, or_mod, or_lt, ones_cat}
 use Rattle.std.specs.Int.Count.{ones, ones_in, ones_step}
 use Rattle.std.proofs.Math.Pow.{split, high, low, field, mod-mod-pow, high_ones, pow-lt}
-use Rattle.basics.specs.Bools.{lt_or_le, true_or_false}
+use Rattle.basics.specs.Bools.{lt_or_le, true_or_false, or_left as or_first, or_right as or_second}
 use Rattle.roster.specs.Sites.{to_nat, count_to, mask_to}
 use Rattle.roster.specs.SitesLaws.{last_or_below, to_nat_le, count_cong, mask_suc}
-use Rattle.roster.specs.Mask.{bit, reaches, beyond, with_site}
+use Rattle.roster.specs.Mask.{bit, reaches, beyond, unproven, with_site}
 
 -- ---- a bit
 
@@ -173,6 +173,14 @@ beyond_wide k mask n h l = (beyond_false mask n).1 (lt_of_lt_of_le h (pow_mono l
 -- where there is none, the ones are sites below n
 pub inside_ones : (mask n : ℕ) → beyond mask n ≡ false → ones mask ≡ count_to n (bit mask)
 inside_ones mask n e = ones_count n mask ((beyond_false mask n).0 e)
+
+-- PROOF is not given where no bit is "at N or above" and the ones are not "too few"
+pub proven_iff : (mask n needed : ℕ) → (unproven mask n needed ≡ false) ↔ ((mask < 2 ^ n) × (needed ≤ ones mask))
+unfolding unproven
+proven_iff mask n needed = (
+  λ e. ((beyond_false mask n).0 (or_first (beyond mask n) _ e), (reaches_iff mask needed).0 (not-false (reaches mask needed) (or_second (beyond mask n) _ e))),
+  λ p. rw ((beyond_false mask n).1 p.0, (reaches_iff mask needed).1 p.1),
+)
 
 -- the mask of a set of sites below n has none
 pub mask_inside : (n : ℕ) (p : ℕ → Bool) → beyond (mask_to n p) n ≡ false

@@ -1,9 +1,9 @@
 -- The laws of counting over sites: none, one more, where a scan stops early, what all and some say of each site, and how two sets
 -- compare. A loop over sites counts up from 0, so "one more" is also stated at the code's `n + 1`.
-use Rattle.std.specs.Prelude.{ℕ, zero, suc, ◌+◌, ◌*◌, ◌^◌, ◌≤◌, ◌<◌, ◌≡◌, refl, ◌⊎◌, Bool, true, false, not, ◌&&◌, ltb}
-use Rattle.std.proofs.Common.{zero-le, sym, ap, ap₂, ◌∙◌, inl, inr, ⊎_elim, true≢false, le_refl, le_of_eq, lt-suc_self, not-suc-le-zero, le_of_suc-le-suc, eq-or-lt_of_le, add-zero, zero-mul, zero-add, add-one, arith, ltb-true, ltb-false}
+use Rattle.std.specs.Prelude.{ℕ, zero, suc, ◌+◌, ◌*◌, ◌^◌, ◌≤◌, ◌<◌, ◌≡◌, refl, ◌⊎◌, Bool, true, false, not, ◌&&◌}
+use Rattle.std.proofs.Common.{zero-le, sym, ap, ap₂, ◌∙◌, ⊎_elim, true≢false, le_refl, le_of_eq, lt-suc_self, not-suc-le-zero, le_of_suc-le-suc, eq-or-lt_of_le, add-zero, zero-mul, zero-add, add-one, arith}
 use Rattle.std.proofs.Math.Nat.{le_step}
-use Rattle.basics.specs.Bools.{lt_or_le, and_left, and_right, and_both, true_or_false}
+use Rattle.basics.specs.Bools.{and_left, and_right, and_both, true_or_false}
 use Rattle.roster.specs.Sites.{to_nat, count_to, all_to, mask_to}
 
 -- ---- tests as numbers

@@ -9,7 +9,7 @@ ghost use Rattle.roster.specs.Mask.{reaches, beyond, unproven, bit, with_site};
 
 // A count of views, from 0.
 #[repr(C)]
-#[derive(Drop)]
+#[derive(Clone, Copy)]
 pub struct View(pub u32);
 
 impl View {
@@ -44,7 +44,7 @@ impl View {
 
 // A count of ballots, from 0.
 #[repr(C)]
-#[derive(Drop)]
+#[derive(Clone, Copy)]
 pub struct Ballot(pub u32);
 
 impl Ballot {
@@ -72,7 +72,7 @@ impl Ballot {
 
 // `n` sites, numbered from 0, of which `f` may lie.
 #[repr(C)]
-#[derive(Drop)]
+#[derive(Clone, Copy)]
 pub struct Roster {
     pub n: u8,
     pub f: u8,

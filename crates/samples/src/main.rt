@@ -1,6 +1,8 @@
 // Document 01's sample histories, run: canonical orders, extensions and merges, a line each.
+#![tactic(auto)]
+
 use history::History;
-use libc::STDOUT_FILENO;
+use std::io;
 
 // A enrols slot 7, B revokes it; C and D raise slot 9.
 const A: u64 = 0x0101000100070000;
@@ -22,92 +24,75 @@ fn letter(c: u64) -> u8 {
     }
 }
 
-fn put(text: &[u8]) {
-    io::write_all(STDOUT_FILENO, text);
+fn put(rt: &impl Print, text: &[u8]) -> io::Result<()> {
+    rt.write_all(text)
 }
 
 // Writes the letters of a history and ends the line.
-fn show(h: &[u64]) {
-    let mut i: usize = 0;
-    while i < h.len() {
-        let text = [letter(h[i])];
-        put(&text);
-        i += 1;
+fn show(rt: &impl Print, h: &[u64]) -> io::Result<()> {
+    for c in h {
+        put(rt, &[letter(*c)])?;
     }
-    put(b"\n");
+    put(rt, b"\n")
 }
 
-fn show_history(h: History) {
+fn show_history(rt: &impl Print, h: History) -> io::Result<()> {
     let n = h.count as usize;
     if n <= words::CAPACITY {
         let w: &[u64] = &h.words;
-        show(&w[..n]);
+        show(rt, &w[..n])?;
     }
+    Ok(())
 }
 
-fn order(text: &[u8], h: &mut [u64]) {
-    put(text);
+fn order(rt: &impl Print, text: &[u8], h: &mut [u64]) -> io::Result<()> {
+    put(rt, text)?;
     history::put_in_order(h);
-    show(h);
+    show(rt, h)
 }
 
-fn extension(text: &[u8], h: &[u64], g: &[u64]) {
-    put(text);
+fn extension(rt: &impl Print, text: &[u8], h: &[u64], g: &[u64]) -> io::Result<()> {
+    put(rt, text)?;
     if history::extends(h, g) {
-        put(b"yes\n");
+        put(rt, b"yes\n")
     } else {
-        put(b"no\n");
+        put(rt, b"no\n")
     }
 }
 
-fn merged(text: &[u8], g: &[u64], h: &[u64]) {
-    put(text);
+fn merged(rt: &impl Print, text: &[u8], g: &[u64], h: &[u64]) -> io::Result<()> {
+    put(rt, text)?;
     let m = merge::merge(words::LIMIT, g, h);
     if m.split {
-        put(b"SPLIT\n");
-        return;
+        return put(rt, b"SPLIT\n");
     }
     if m.full {
-        put(b"FULL\n");
-        return;
+        return put(rt, b"FULL\n");
     }
-    let found = m.history;
-    show_history(found);
+    show_history(rt, m.history)
 }
 
-fn orders() {
-    let mut bca = [B, C, A];
-    order(b"canonical BCA: ", &mut bca);
-    let mut dca = [D, C, A];
-    order(b"canonical DCA: ", &mut dca);
-    let mut abc = [A, B, C];
-    order(b"canonical ABC: ", &mut abc);
-    let mut ba = [B, A];
-    order(b"canonical BA: ", &mut ba);
+fn orders(rt: &impl Print) -> io::Result<()> {
+    order(rt, b"canonical BCA: ", &mut [B, C, A])?;
+    order(rt, b"canonical DCA: ", &mut [D, C, A])?;
+    order(rt, b"canonical ABC: ", &mut [A, B, C])?;
+    order(rt, b"canonical BA: ", &mut [B, A])
 }
 
-fn extensions() {
-    let ac = [A, C];
-    let c = [C];
-    extension(b"AC extends C: ", &ac, &c);
+fn extensions(rt: &impl Print) -> io::Result<()> {
+    extension(rt, b"AC extends C: ", &[A, C], &[C])?;
+    extension(rt, b"AB extends B: ", &[A, B], &[B])
+}
+
+fn merges(rt: &impl Print) -> io::Result<()> {
     let ab = [A, B];
-    let b = [B];
-    extension(b"AB extends B: ", &ab, &b);
+    merged(rt, b"merge AC AB: ", &[A, C], &ab)?;
+    merged(rt, b"merge A B: ", &[A], &[B])?;
+    merged(rt, b"merge AB BA: ", &ab, &[B, A])
 }
 
-fn merges() {
-    let ac = [A, C];
-    let ab = [A, B];
-    merged(b"merge AC AB: ", &ac, &ab);
-    let a = [A];
-    let b = [B];
-    merged(b"merge A B: ", &a, &b);
-    let ba = [B, A];
-    merged(b"merge AB BA: ", &ab, &ba);
-}
-
-fn main() {
-    orders();
-    extensions();
-    merges();
+fn main(rt: HostRuntime) -> io::Result<()> {
+    orders(&rt)?;
+    extensions(&rt)?;
+    merges(&rt)
 }

@@ -97,6 +97,13 @@ module _ (kind own : ℕ) (view : View) (ballot provenBallot : Ballot) (mask : �
         words_fit = each_fit frame_capacity (each_padded frame_capacity (each_append v w)) (length_padded frame_capacity (h ++ k));
       })
 
+-- and one without commands
+pub bare_writable : (kind own : ℕ) (view : View) (ballot provenBallot : Ballot) (mask : ℕ)
+    → kind < 256 → own < 256 → view.0 < 2 ^ 32 → ballot.0 < 2 ^ 32 → provenBallot.0 < 2 ^ 32 → mask < 2 ^ 16
+    → proper capacity (message kind own view ballot provenBallot mask [] []) ≡ true → writable (message kind own view ballot provenBallot mask [] []) ≡ true
+bare_writable kind own view ballot provenBallot mask =
+    message_writable kind own view ballot provenBallot mask (omega arith) (omega arith) none none
+
 -- ---- the frame of a heading and two lists
 
 -- what is written of a message's heading and its two lists is what is written of the message

@@ -1,4 +1,6 @@
 // A site: whether its roster, own number and lent buffer will do; the view-change record; and making and handing over the frame that it sends.
+#![tactic(auto)]
+
 ghost use Rattle.std.specs.Prelude.{◌≡◌, take};
 ghost use Rattle.words.specs.Sizes.{capacity};
 ghost use Rattle.site.specs.Site as spec;
@@ -10,7 +12,7 @@ use roster::{Ballot, Roster, View};
 
 // The view-change record, lent by the host.
 #[repr(C)]
-#[derive(Drop)]
+#[derive(Clone, Copy)]
 pub struct ViewRecord {
     // The view that the site is in.
     pub view: View,

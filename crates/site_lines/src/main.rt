@@ -2,11 +2,14 @@
 // that starts with `#` is a comment and is copied; `=` with six hex digits, N, f and the own number, starts again with a fresh site; `>`
 // with a frame hands it to the leader; `+` with a P1A or a FAST is the host that opens the ballot of that frame; any other line is a frame
 // for the view change or the acceptor. All but the first two get a line with the answer and, where a frame is sent, a blank and that frame.
+#![tactic(auto)]
+
 use acceptor::State;
 use history::History;
-use libc::{STDIN_FILENO, STDOUT_FILENO};
 use roster::{Ballot, Roster};
 use site::ViewRecord;
+use std::io;
+use std::io::Read;
 use table::Table;
 
 const LINE_FEED: u8 = 10;
@@ -16,8 +19,14 @@ const FAST: u8 = 2;
 
 const OPENING: u16 = 6;
 
+// How many bytes are read at a time at most.
+const CHUNK: usize = 65_536;
+
+// How many bytes of a line are kept: one more than the longest line has.
+const KEPT: usize = frame::LONGEST + 1;
+
 // What a site is and keeps: roster, own number, view-change record, and the states of acceptor and leader.
-#[derive(Drop)]
+#[derive(Clone, Copy)]
 struct Site {
     roster: Roster,
     own: u8,
@@ -27,7 +36,7 @@ struct Site {
 }
 
 // What stands between two reads of the input: the site, how many bytes are kept of the line that arrives, and whether the input is over.
-#[derive(Drop)]
+#[derive(Clone, Copy)]
 struct Stream {
     site: Site,
     len: usize,
@@ -35,24 +44,23 @@ struct Stream {
 }
 
 // The bytes after the first.
-fn rest<'a>(bytes: &'a [u8]) -> &'a [u8] {
+fn rest(bytes: &[u8]) -> &[u8] {
     if 1 <= bytes.len() { &bytes[1..] } else { bytes }
 }
 
 // Writes bytes to standard output.
-fn put(bytes: &[u8]) {
-    io::write_all(STDOUT_FILENO, bytes);
+fn put(rt: &impl Print, bytes: &[u8]) -> io::Result<()> {
+    rt.write_all(bytes)
 }
 
 // Writes the answer's number and what is sent, which ends with a line feed.
-fn say(number: u8, sent: &[u8]) {
-    io::print_decimal(STDOUT_FILENO, number as u64);
+fn say(rt: &impl Print, number: u8, sent: &[u8]) -> io::Result<()> {
+    rt.print(number)?;
     if sent.len() == 0 {
-        put(b"\n");
-    } else {
-        put(b" ");
-        put(sent);
+        return put(rt, b"\n");
     }
+    put(rt, b" ")?;
+    put(rt, sent)
 }
 
 // A fresh site.
@@ -87,34 +95,24 @@ fn for_view_change(line: &[u8]) -> bool {
 }
 
 // The site after a line for the view change.
-fn change(s: Site, line: &[u8], out: &mut [u8]) -> Site {
+fn change(rt: &impl Print, s: Site, line: &[u8], out: &mut [u8]) -> io::Result<Site> {
     let o = viewchange::step(s.roster, s.own, s.views, line, out);
-    let answer = o.answer;
-    say(answer.number(), lines::first(out, o.sent));
-    let roster = s.roster;
-    let views = o.views;
-    let state = s.state;
-    let leading = s.leading;
-    Site {
-        roster,
-        own: s.own,
-        views,
-        state,
-        leading,
-    }
+    say(rt, o.answer.number(), lines::first(out, o.sent))?;
+    Ok(Site {
+        views: o.views,
+        ..s
+    })
 }
 
 // The acceptor's state of these parts.
 fn accepting(marks: acceptor::Marks, held: History, proven: History, verified: Table) -> State {
-    let ballot = marks.ballot;
-    let proven_ballot = marks.proven_ballot;
     State {
-        ballot,
+        ballot: marks.ballot,
         fast: marks.fast,
         signed: marks.signed,
         held,
         proven,
-        proven_ballot,
+        proven_ballot: marks.proven_ballot,
         certificate: marks.certificate,
         verified,
     }
@@ -122,13 +120,11 @@ fn accepting(marks: acceptor::Marks, held: History, proven: History, verified: T
 
 // What an acceptor's state keeps beside its histories.
 fn marks_in(s: State) -> acceptor::Marks {
-    let ballot = s.ballot;
-    let proven_ballot = s.proven_ballot;
     acceptor::Marks {
-        ballot,
+        ballot: s.ballot,
         fast: s.fast,
         signed: s.signed,
-        proven_ballot,
+        proven_ballot: s.proven_ballot,
         certificate: s.certificate,
     }
 }
@@ -164,56 +160,37 @@ fn step_acceptor(s: Site, line: &[u8], out: &mut [u8]) -> acceptor::Outcome {
         count: m,
         words: proven,
     };
-    let answer = o.answer;
     acceptor::Outcome {
-        answer,
+        answer: o.answer,
         sent: o.sent,
         state: accepting(o.marks, held, proven, Table { counts, words }),
     }
 }
 
 // The site after a line for the acceptor.
-fn accept(s: Site, line: &[u8], out: &mut [u8]) -> Site {
+fn accept(rt: &impl Print, s: Site, line: &[u8], out: &mut [u8]) -> io::Result<Site> {
     let o = step_acceptor(s, line, out);
-    let answer = o.answer;
-    say(answer.number(), lines::first(out, o.sent));
-    let roster = s.roster;
-    let views = s.views;
-    let state = o.state;
-    let leading = s.leading;
-    Site {
-        roster,
-        own: s.own,
-        views,
-        state,
-        leading,
-    }
+    say(rt, o.answer.number(), lines::first(out, o.sent))?;
+    Ok(Site {
+        state: o.state,
+        ..s
+    })
 }
 
 // The site after a call of its leader.
-fn led(s: Site, o: leader::Outcome, out: &[u8]) -> Site {
-    let answer = o.answer;
-    say(answer.number(), lines::first(out, o.sent));
-    let roster = s.roster;
-    let views = s.views;
-    let state = s.state;
-    let leading = o.state;
-    Site {
-        roster,
-        own: s.own,
-        views,
-        state,
-        leading,
-    }
+fn led(rt: &impl Print, s: Site, o: leader::Outcome, out: &[u8]) -> io::Result<Site> {
+    say(rt, o.answer.number(), lines::first(out, o.sent))?;
+    Ok(Site {
+        leading: o.state,
+        ..s
+    })
 }
 
 // What a leader's state keeps beside its lists.
 fn marks_of(s: leader::State) -> leader::Marks {
-    let view = s.view;
-    let ballot = s.ballot;
     leader::Marks {
-        view,
-        ballot,
+        view: s.view,
+        ballot: s.ballot,
         classic: s.classic,
         reported: s.reported,
     }
@@ -221,16 +198,13 @@ fn marks_of(s: leader::State) -> leader::Marks {
 
 // What a call of the leader gives, with the state of the parts that it left.
 fn leading(o: leader::Settled, pending: History, proven: Table, held: Table) -> leader::Outcome {
-    let answer = o.answer;
     let marks = o.marks;
-    let view = marks.view;
-    let ballot = marks.ballot;
     leader::Outcome {
-        answer,
+        answer: o.answer,
         sent: o.sent,
         state: leader::State {
-            view,
-            ballot,
+            view: marks.view,
+            ballot: marks.ballot,
             classic: marks.classic,
             pending,
             reported: marks.reported,
@@ -241,7 +215,7 @@ fn leading(o: leader::Settled, pending: History, proven: Table, held: Table) -> 
 }
 
 // What the leader is called for: to open a ballot of this number and mode, or to hear a line.
-#[derive(Drop)]
+#[derive(Clone, Copy)]
 struct Request {
     opens: bool,
     ballot: Ballot,
@@ -262,8 +236,7 @@ fn call_leader(
     out: &mut [u8],
 ) -> leader::Settled {
     let marks = marks_of(s.leading);
-    let opens = asked.opens;
-    if opens {
+    if asked.opens {
         return leader::open_in_place(
             s.roster,
             s.own,
@@ -295,7 +268,7 @@ fn call_leader(
 }
 
 // The site after a call of its leader on copies of the parts of its state.
-fn lead(s: Site, asked: Request, line: &[u8], out: &mut [u8]) -> Site {
+fn lead(rt: &impl Print, s: Site, asked: Request, line: &[u8], out: &mut [u8]) -> io::Result<Site> {
     let before = s.leading;
     let mut count = before.pending.count;
     let mut words = before.pending.words;
@@ -324,130 +297,122 @@ fn lead(s: Site, asked: Request, line: &[u8], out: &mut [u8]) -> Site {
         counts: held_counts,
         words: held_words,
     };
-    led(s, leading(o, pending, proven, held), out)
+    led(rt, s, leading(o, pending, proven, held), out)
 }
 
 // The site after a line for the leader.
-fn hear_leader(s: Site, line: &[u8], out: &mut [u8]) -> Site {
-    lead(
-        s,
-        Request {
-            opens: false,
-            ballot: Ballot(0),
-            fast: 0,
-        },
-        line,
-        out,
-    )
+fn hear_leader(rt: &impl Print, s: Site, line: &[u8], out: &mut [u8]) -> io::Result<Site> {
+    let asked = Request {
+        opens: false,
+        ballot: Ballot(0),
+        fast: 0,
+    };
+    lead(rt, s, asked, line, out)
 }
 
 // The site after its host opened the ballot of a P1A or a FAST; a line that is neither counts as ballot 0.
-fn open_ballot(s: Site, line: &[u8], out: &mut [u8]) -> Site {
-    let reading = frame::read(words::LIMIT, line, OPENING);
-    let m = reading.frame;
-    let ballot = m.ballot;
-    let fast: u8 = if m.kind == FAST { 1 } else { 0 };
-    lead(
-        s,
-        Request {
-            opens: true,
-            ballot,
-            fast,
-        },
-        line,
-        out,
-    )
+fn open_ballot(rt: &impl Print, s: Site, line: &[u8], out: &mut [u8]) -> io::Result<Site> {
+    let m = frame::read(words::LIMIT, line, OPENING).frame;
+    let asked = Request {
+        opens: true,
+        ballot: m.ballot,
+        fast: u8::from(m.kind == FAST),
+    };
+    lead(rt, s, asked, line, out)
 }
 
 // The site after a line.
-fn hear(s: Site, line: &[u8], out: &mut [u8]) -> Site {
-    if line.len() == 0 {
-        return s;
+fn hear(rt: &impl Print, s: Site, line: &[u8], out: &mut [u8]) -> io::Result<Site> {
+    match line {
+        [] => Ok(s),
+        [b'#', ..] => {
+            put(rt, line)?;
+            Ok(s)
+        }
+        [b'=', ..] => Ok(restart(line)),
+        [b'>', ..] => hear_leader(rt, s, rest(line), out),
+        [b'+', ..] => open_ballot(rt, s, rest(line), out),
+        _ if for_view_change(line) => change(rt, s, line, out),
+        _ => accept(rt, s, line, out),
     }
-    let mark = line[0];
-    if mark == b'#' {
-        put(line);
-        return s;
-    }
-    if mark == b'=' {
-        return restart(line);
-    }
-    if mark == b'>' {
-        return hear_leader(s, rest(line), out);
-    }
-    if mark == b'+' {
-        return open_ballot(s, rest(line), out);
-    }
-    let changes = for_view_change(line);
-    if changes {
-        return change(s, line, out);
-    }
-    accept(s, line, out)
 }
 
 // The stream after bytes of input.
-fn chunk(s: Stream, bytes: &[u8], line: &mut [u8], out: &mut [u8]) -> Stream {
+fn chunk(
+    rt: &impl Print,
+    s: Stream,
+    bytes: &[u8],
+    line: &mut [u8],
+    out: &mut [u8],
+) -> io::Result<Stream> {
     let mut site = s.site;
     let mut len = s.len;
-    let mut i: usize = 0;
-    while i < bytes.len() {
-        let b = bytes[i];
-        i += 1;
-        len = lines::push(line, len, b);
-        if b == LINE_FEED {
-            site = hear(site, lines::first(line, len), out);
+    for b in bytes {
+        len = lines::push(line, len, *b);
+        if *b == LINE_FEED {
+            site = hear(rt, site, lines::first(line, len), out)?;
             len = 0;
         }
     }
-    Stream {
+    Ok(Stream {
         site,
         len,
         over: s.over,
-    }
+    })
 }
 
 // The stream after one read of the input.
-fn turn(mut s: Stream, input: &mut [u8], line: &mut [u8], out: &mut [u8]) -> Stream {
-    let got = libc::read(STDIN_FILENO, input);
-    if got <= 0 {
+fn turn(
+    rt: &impl Print,
+    mut s: Stream,
+    source: &mut impl Read,
+    input: &mut [u8],
+    line: &mut [u8],
+    out: &mut [u8],
+) -> io::Result<Stream> {
+    let n = source.read(input)?;
+    if n == 0 {
         s.over = true;
-        return s;
+        return Ok(s);
     }
-    let n = io::count(got, input);
-    chunk(s, lines::first(input, n), line, out)
+    chunk(rt, s, &input[..n], line, out)
 }
 
-// The stream after the whole input. A proved loop has to end, and nothing says that the input does. So the loop counts its turns
-// down, from a number that no run uses up.
-fn run(s: Stream, input: &mut [u8], line: &mut [u8], out: &mut [u8]) -> Stream {
+// The stream after the whole input. A proved loop has to end, and nothing says that the input does. So the loop counts its turns, up to
+// a number that no run reaches.
+fn run(
+    rt: &impl Print,
+    s: Stream,
+    source: &mut impl Read,
+    input: &mut [u8],
+    line: &mut [u8],
+    out: &mut [u8],
+) -> io::Result<Stream> {
     let mut next = s;
-    let mut turns = u64::MAX;
-    while 0 < turns {
-        next = turn(next, input, line, out);
-        let stop = next.over;
-        if stop {
-            return next;
+    for _ in 0..u64::MAX {
+        next = turn(rt, next, source, input, line, out)?;
+        if next.over {
+            break;
         }
-        turns -= 1;
     }
-    next
+    Ok(next)
 }
 
 // Hands in the bytes after the last line feed, if there are any; they are no line.
-fn finish(s: Stream, line: &[u8], out: &mut [u8]) {
-    let site = s.site;
-    hear(site, lines::first(line, s.len), out);
+fn finish(rt: &impl Print, s: Stream, line: &[u8], out: &mut [u8]) -> io::Result<()> {
+    hear(rt, s.site, lines::first(line, s.len), out)?;
+    Ok(())
 }
 
-fn main() {
-    let mut input = io::large_buffer();
-    let mut line = [0u8; 1062];
+fn main(rt: HostRuntime) -> io::Result<()> {
+    let mut input = [0u8; CHUNK];
+    let mut line = [0u8; KEPT];
     let mut out = [0u8; frame::LONGEST];
     let start = Stream {
         site: fresh(Roster { n: 0, f: 0 }, 0),
         len: 0,
         over: false,
     };
-    let last = run(start, &mut input, &mut line, &mut out);
-    finish(last, &line, &mut out);
+    let last = run(&rt, start, &mut rt.stdin(), &mut input, &mut line, &mut out)?;
+    finish(&rt, last, &line, &mut out)
 }

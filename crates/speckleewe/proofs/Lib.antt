@@ -1,10 +1,3 @@
--- The walks of the entries over a lent record.
-mod Arguments
-mod Lent
-mod Entry
-mod WithBuffer
-mod Parts
+-- What the proofs of the entries share, and the laws of calls by a host.
 mod Replies
-mod LearnerInPlace
-mod LeaderInPlace
-mod AcceptorInPlace
+pub mod CallLaws

@@ -1,6 +1,8 @@
 // Everything that a C or Rust host calls. The host lends a role's record, and each call changes it in place: the parts of the record that are lists are
 // lent on to the proved step, and the few numbers beside them are copied and stored. The small view-change record is copied whole. A slice is passed as
 // a pointer to its first byte and its length.
+#![tactic(auto)]
+
 ghost use Rattle.std.specs.Prelude.{◌≡◌};
 ghost use Rattle.frame.specs.Layout.{longest};
 ghost use Rattle.leader.specs.Leader as leading;
@@ -16,7 +18,7 @@ use site::ViewRecord;
 
 // What a call that may send answers: the answer's number, and how many bytes of the buffer are to be sent.
 #[repr(C)]
-#[derive(Drop)]
+#[derive(Clone, Copy)]
 pub struct Reply {
     pub answer: u8,
     pub sent: usize,
@@ -24,7 +26,7 @@ pub struct Reply {
 
 // What a learner's call answers: the answer's number, and the supporters.
 #[repr(C)]
-#[derive(Drop)]
+#[derive(Clone, Copy)]
 pub struct LearnerReply {
     pub answer: u8,
     pub supporters: u8,
@@ -32,14 +34,14 @@ pub struct LearnerReply {
 
 // What a site's acceptor is lent: the site's view-change record, which is also lent to the view change, and the acceptor's state.
 #[repr(C)]
-#[derive(Drop)]
+#[derive(Clone, Copy)]
 pub struct Site {
     pub views: ViewRecord,
     pub acceptor: acceptor::State,
 }
 
 // What a step of the view change gives: the answer's number, how many bytes of the buffer are to be sent, and the record after it.
-#[derive(Drop)]
+#[derive(Clone, Copy)]
 struct ViewChangeOutcome {
     answer: u8,
     sent: usize,
@@ -47,7 +49,7 @@ struct ViewChangeOutcome {
 }
 
 // What an acceptor's step in place gives: the answer's number, how many bytes of the buffer are to be sent, and the marks after it.
-#[derive(Drop)]
+#[derive(Clone, Copy)]
 struct SiteOutcome {
     answer: u8,
     sent: usize,
@@ -56,14 +58,14 @@ struct SiteOutcome {
 
 // A ballot that a leader is to open, a classic one where `fast` is 0.
 #[repr(C)]
-#[derive(Drop)]
+#[derive(Clone, Copy)]
 pub struct Opening {
     pub ballot: Ballot,
     pub fast: u8,
 }
 
 // What a leader's call in place gives: the answer's number, how many bytes of the buffer are to be sent, and the marks after it.
-#[derive(Drop)]
+#[derive(Clone, Copy)]
 struct LeaderOutcome {
     answer: u8,
     sent: usize,

@@ -1,4 +1,6 @@
 // Tables of histories: sixteen rows of 32 words, one a site, with their counts.
+#![tactic(auto)]
+
 ghost use Rattle.std.specs.Prelude.{◌≡◌};
 ghost use Rattle.roster.specs.Sites.{all_to};
 ghost use Rattle.table.specs.Table.{sites};
@@ -7,7 +9,7 @@ ghost use Rattle.table.specs.Table as spec;
 // One history a site: row i is words 32 * i to 32 * i + 31, of which the first counts[i] are the history. The words after them mean
 // nothing.
 #[repr(C)]
-#[derive(Drop)]
+#[derive(Clone, Copy)]
 pub struct Table {
     pub counts: [u8; 16],
     pub words: [u64; 512],

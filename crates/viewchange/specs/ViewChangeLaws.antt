@@ -1,5 +1,5 @@
 -- One step of view change: its outcome, the frames that it sends, and what the record keeps.
-use Rattle.std.specs.Prelude.{◌≡◌, refl, ◌⊎◌, Bool, true, false, not, ◌&&◌, ◌||◌, List, ◌∷◌, ℕ, ◌^◌, ◌≤◌, ◌<◌, ◌+◌, eqb, length}
+use Rattle.std.specs.Prelude.{◌≡◌, refl, ◌⊎◌, Bool, true, false, not, ◌&&◌, ◌||◌, List, [], ◌∷◌, ℕ, ◌^◌, ◌≤◌, ◌<◌, ◌+◌, eqb, length}
 use Rattle.std.proofs.Common.{sym, ap, ◌∙◌, subst, inl, inr, ⊎_elim, le_refl, le_of_lt, arith, lit<}
 use Rattle.std.specs.Bool.{beq}
 use Rattle.std.proofs.Math.Bool.{and-true}
@@ -24,6 +24,7 @@ use Rattle.refusal.specs.Order.{in_order, follows}
 use Rattle.refusal.specs.JudgedLaws.{GivenFirst, NoneHolds, pass, Judgement, refused, accepts, judgement, test_of, no_test}
 use Rattle.frame.specs.declared.Frame.{Frame}
 use Rattle.frame.specs.Hex.{all_fit}
+use Rattle.frame.specs.Kinds as kinds
 use Rattle.frame.specs.Kinds.{uses, is_kind, unused_zero, zero_unless}
 use Rattle.frame.specs.BareLaws.{bare_kind, bare_kinds}
 use Rattle.frame.specs.Format.{frame_of, reading_of, malformed, proper, all_zero, fits, writable}
@@ -129,6 +130,13 @@ taken_is k =
     (λ (p : 10 ≤ k).
     bit_out taken 10 k (lit< tt) p ∙ sym (rw (ne_eqb k suspicion_kind (λ e. omega arith), ne_eqb k change_kind (λ e. omega arith))))
     (lt_or_le k 10)
+
+-- they and the kinds that are sent are those of the table of kinds
+pub kinds_named : (taken ≡ kinds.set_of (kinds.SUSPICION ∷ kinds.VIEWCHANGE ∷ []))
+    × (suspicion_kind ≡ kinds.SUSPICION)
+    × (change_kind ≡ kinds.VIEWCHANGE)
+    × (leader_kind ≡ kinds.LEADER)
+kinds_named = (refl, refl, refl, refl)
 
 -- neither uses n or m
 pub bare_taken : bare_kinds taken ≡ true
@@ -237,9 +245,13 @@ module _ (own : ℕ) (view : View) (a : own < 256) (b : view.0 < 2 ^ 32) where
       reading_line limit (own_suspicion own view) taken (line_is_line limit own_frame own_writable (omega arith) (omega arith)) (rw (frame_of_line own_frame own_writable) own_taken)
       ∙ ap (λ (m : Frame). record { found = true; frame = m }) (frame_of_line own_frame own_writable)
 
--- the next view fits where FULL lets pass
+-- there is a next view where a view is not the last
+pub below_last : (v : ViewRecord) → last_view v.view ≡ false → (next_view v).0 < 2 ^ 32
+below_last v e = omega (arith, leb-false 4294967295 v.view.0 e)
+
+-- so it fits where FULL lets pass
 pub not_last : (r : Roster) (v : ViewRecord) (site : ℕ) → full r v site ≡ false → sets r v site ≡ true → (next_view v).0 < 2 ^ 32
-not_last r v site e f = omega (arith, leb-false 4294967295 v.view.0 (sym (and-true (last_view v.view)) ∙ (rw f at e)))
+not_last r v site e f = below_last v (sym (and-true (last_view v.view)) ∙ (rw f at e))
 
 next_fits : (r : Roster) (v : ViewRecord) (m : Frame) → NoneHolds (frame_rules SUSPICION r v m) → sets r v m.sender ≡ true → (next_view v).0 < 2 ^ 32
 unfolding test_of

@@ -1,4 +1,6 @@
 // View change: sites that suspect the leader of a view agree on the next one.
+#![tactic(auto)]
+
 ghost use Rattle.std.specs.Prelude.{true, false, ◌≡◌, eqb};
 ghost use Rattle.refusal.specs.Rules.{answer};
 ghost use Rattle.site.specs.Reply.{Handed, sends};
@@ -11,7 +13,7 @@ use roster::{Ballot, Roster, View};
 use site::ViewRecord;
 
 // The answer to a line, how many bytes of the buffer are to be sent, and the record after it.
-#[derive(Drop)]
+#[derive(Clone, Copy)]
 pub struct Outcome {
     pub answer: Answer,
     pub sent: usize,

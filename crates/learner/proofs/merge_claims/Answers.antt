@@ -1,0 +1,12 @@
+-- `learner::merge_claims` meets its contract: h is the one claim if there are enough supporters, else there is none.
+use Rattle.std.proofs.lemmas.Bool.{le-leb, lt-leb}
+use Rattle.learner.specs.Learner.{merging, further}
+use Rattle.learner.proofs.merge_claims.Goals as goal
+
+pub returns-then-enough : goal.returns-then-enough
+unfolding merging further
+returns-then-enough c = rw (← c.quorum.ensures, le-leb _ _ c.if-enough.true, ← c.first-present.ensures) c.merge.ensures
+
+pub returns : goal.returns
+unfolding merging further
+returns c = rw (← c.quorum.ensures, lt-leb _ _ c.if-enough.false)

@@ -1,0 +1,2 @@
+-- The laws of roster, and what its proofs share.
+pub mod QuorumLaws

@@ -1,0 +1,29 @@
+-- `table::row` meets its contract: each early return is one of the ways in which there is no such row, and past them the part is the row.
+use mathlib.Core.Path.{◌≡◌, sym}
+use Prim.Native.Nat.{◌+◌, ◌-◌, ◌*◌}
+use native.Mathlib.Omega.{arith}
+use lib.ListN.{get_or}
+use Rattle.history.specs.Words.{capacity}
+use Rattle.table.specs.TableLaws.{row_past, row_short, row_over, row_is}
+use borrow.Author.Rules.{rules}
+use Rattle.table.proofs.row.Goals as goal
+
+pub returns-then-counts-site : goal.returns-then-counts-site
+returns-then-counts-site c = sym (row_past _ _ _ c.if-counts-site.true)
+
+pub returns-then-words-site : goal.returns-then-words-site
+returns-then-words-site c = let given = c.args in
+    sym (row_short _ _ given.site (omega arith))
+
+pub overflow_cast-n : goal.overflow_cast-n
+overflow_cast-n c = let given = c.args in
+    omega (arith, c.shared_slice_known-1.given given.site)
+
+pub returns-then-n-gt-CAPACITY : goal.returns-then-n-gt-CAPACITY
+returns-then-n-gt-CAPACITY c = sym (row_over _ _ _ c.if-n-gt-CAPACITY.true)
+
+pub returns : goal.returns
+returns c = let at = c.args in
+    let n = get_or at.counts.now at.site 0 in
+    let size : capacity * at.site + n - capacity * at.site ≡ n = omega arith in
+    rw size (sym (row_is at.words.now at.counts.now at.site (search rules) (omega arith) c.if-n-gt-CAPACITY.false))
