@@ -2,11 +2,14 @@
 # Builds the program `learn` and runs it on the sample votes, showing beside each line its answer, the supporters, and what the answer means.
 set -euo pipefail
 cd "$(dirname "$0")/.."
-rt check learn >/dev/null
 sample=crates/learn/stdin
 answers=$(mktemp)
-trap 'rm -f "$answers"' EXIT
-target/bin/learn <"$sample" >"$answers"
+log=$(mktemp)
+trap 'rm -f "$answers" "$log"' EXIT
+if ! (cd crates/learn && rt run <stdin) >"$answers" 2>"$log"; then
+    cat "$log" >&2
+    exit 1
+fi
 echo "roster line: $(head -n 1 "$sample")"
 paste -d ' ' "$answers" <(tail -n +2 "$sample" | cut -c 1-64) | awk '
   BEGIN {

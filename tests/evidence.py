@@ -3,9 +3,11 @@
 
 docs/TRACE.md   each link `[`NAME`](FILE)` names something that FILE declares; every public function is linked, and has a contract without
                 precondition; and a declaration that nothing uses is linked there too, as a theorem for the reader, or it is dead.
-docs/TRUST.md   the table of definitions is what the contracts of the exported functions and the claim of agreement reach, with its line counts.
+docs/TRUST.md   the table of definitions is what the contracts of the exported functions and the claims below reach, with its line counts.
+Call lists      the contract of each exported function that stands in call lists is the relation that its law in CallLaws.antt supposes.
 README.md       the map of crates has a row for each line of crates.txt.
-All pages       a law that is named in backticks is declared somewhere.
+All pages       a name of two words or more, as laws have, that stands in backticks is declared somewhere; a file of a crate that is named is there,
+                and declares the names that are said to be in it.
 All files       each opens with a comment that says what it is for; an edit has one name in must-fail/ and wrong/, changes no proof, and each
                 text that it replaces is there once.
 
@@ -20,19 +22,24 @@ from edits import edited
 
 ROOT = Path(__file__).resolve().parent.parent
 CRATES = ROOT / 'crates'
-# what the definitions that must be believed are reached from: the exported functions' contracts, the agreement of learners, what a merge is, and the
-# statement about the samples
+# what the definitions that must be believed are reached from: the exported functions' contracts, the agreement of learners, what a merge is, what
+# learners write over bytes, and the statement about the samples
 EXPORTS = 'crates/speckleewe/src/lib.rt'
 CLAIMS = (
     ('crates/agreement/specs/Agreement.antt', 'Claim'),
     ('crates/merge/specs/Merge.antt', 'IsMerge'),
+    ('crates/transcript/specs/Stream.antt', 'Transcribed'),
     ('crates/samples/specs/Samples.antt', 'samples'),
     ('crates/samples/specs/Samples.antt', 'AllHold'),
 )
-TOKEN = re.compile(r'[^\s(){}\[\];,`"⌜⌝λ]+')
+TOKEN = re.compile(r'[^\s(){}\[\];,`"λ]+')
 SIGNATURE = re.compile(r'^( *)(?:abbrev |unfoldable )?(?:pub )?([^\s:(){}|]+) :(?:\s|$)')
-PASSED = re.compile(r'\s*(use|pub use|unfoldable pub use|mod|pub mod|infix\w*|unfolding)\b')
-USE = re.compile(r'^\s*(?:ghost )?(?:unfoldable )?(?:pub )?use Rattle·(\w+?)(?:·specs|·proofs)?\.(specs|proofs)\.([\w.+-]+?)(?:\.\{([^}]*)\}| as ([\w′-]+))?;?$', re.M)
+PASSED = re.compile(r'\s*(use|pub use|unfoldable pub use|mod|pub mod|open|infix\w*|unfolding)\b')
+USE = re.compile(r"^\s*(?:ghost )?(?:unfoldable )?(?:pub )?use Rattle\.(\w+)\.(specs|proofs)\.([\w.+-]+?)(?:\.\{([^}]*)\}| as ([\w'-]+))?;?$", re.M)
+# what pages name of std
+STD = {'get_or', 'wrapping_sub'}
+# a clause of a function, by its word; it may have a name
+CLAUSE = r'(?:^|\s)%s\*?(?: \w+)? \{'
 TYPE = re.compile(r'^( *)(?:pub )?(record|data) ([^\s{(]+)')
 
 
@@ -105,19 +112,38 @@ def functions(path):
     for number, line in enumerate(rows):
         opened = re.match(r'impl (\w+)', line)
         owner = opened.group(1) if opened else None if line.startswith('}') else owner
-        head = re.match(r'\s*(pub )?(extern "C" )?fn (\w+)', line)
+        head = re.match(r'\s*(pub )?(?:pub\(crate\) )?(?:extern "C" )?fn (\w+)', line)
         if head:
             text = []
             for row in rows[number:]:
                 text.append(row)
                 if re.match(r'\s*\{\s*$', row) or re.search(r'\)( -> [^{]*)? \{$', row):
                     break
-            found.append(((owner + '::' if owner else '') + head.group(3), bool(head.group(1)), '\n'.join(text)))
+            found.append(((owner + '::' if owner else '') + head.group(2), bool(head.group(1)), '\n'.join(text)))
+    return found
+
+
+def clauses(text, kind):
+    """The clauses of this kind, `ensures` or `requires`, in the text of a function down to its body."""
+    found = []
+    for opened in re.finditer(CLAUSE % kind, text):
+        depth, end = 1, opened.end()
+        while depth:
+            depth += {'{': 1, '}': -1}.get(text[end], 0)
+            end += 1
+        found.append(text[opened.end():end - 1])
     return found
 
 
 def sources(pattern):
     return sorted(CRATES.glob(pattern))
+
+
+@lru_cache(maxsize=None)
+def listed():
+    """The crates of crates.txt, in its order."""
+    rows = (ROOT / 'crates.txt').read_text().split('\n')
+    return [row.split(':')[0].split()[0] for row in rows if ':' in row and not row.startswith('#')]
 
 
 # ---- docs/TRACE.md
@@ -141,13 +167,14 @@ def trace():
         for name, public, head in functions(path):
             if public and (path, name) not in linked:
                 faults.append('docs/TRACE.md does not mention %s of %s' % (name, shown(path)))
-            if public and ('ensures {' not in head or 'requires {' in head):
+            if public and (not clauses(head, 'ensures') or clauses(head, 'requires')):
                 faults.append('%s: the public %s has no ensures, or a requires' % (shown(path), name))
     return faults + dead(linked)
 
 
 def dead(cited):
-    """Declarations of specs/ and of the shared files of proofs/ that no other declaration, contract or proof names, nor the trace."""
+    """Declarations of specs/ and of the shared files of proofs/ that no other declaration, contract or proof names, nor the trace. What stands in the
+    folder of one function's proof answers what the prover asks there."""
     used = set()
     for path in sources('*/src/*.rt'):
         used.update(mentions(path, '\n'.join(bare(line) for line in lines_of(path))))
@@ -158,11 +185,17 @@ def dead(cited):
             used.update(found for found in mentions(path, text) if found != (path, block.name))
         used.update(mentions(path, '\n'.join(bare(line) for line in lines_of(path) if line.lstrip().startswith('module '))))
     return ['%s: nothing uses %s, nor does docs/TRACE.md cite it' % (shown(path), block.name)
-            for path in files if path.name != 'Proof.antt' for block in blocks(path)
+            for path in files if path.parent.name == 'proofs' or 'specs' in path.parts for block in blocks(path)
             if (path, block.name) not in used and (path, block.name) not in cited]
 
 
 # ---- docs/TRUST.md
+
+def root_of(crate):
+    """The file that a crate's modules hang on."""
+    library = CRATES / crate / 'src' / 'lib.rt'
+    return library if library.is_file() else library.with_name('main.rt')
+
 
 @lru_cache(maxsize=None)
 def imports(path):
@@ -170,9 +203,8 @@ def imports(path):
     names, modules = {}, {}
     for found in USE.finditer(path.read_text()):
         crate, folder, module, listed, alias = found.groups()
-        module = module.removeprefix(folder + '.')
-        own = module.startswith('declared.')
-        target = CRATES / crate / 'src' / 'lib.rt' if own else CRATES / crate / folder / (module.replace('.', '/') + '.antt')
+        own = folder == 'specs' and module.startswith('declared.')
+        target = root_of(crate) if own else CRATES / crate / folder / (module.replace('.', '/') + '.antt')
         if alias:
             modules[alias] = target
         for item in (listed or '').split(','):
@@ -195,7 +227,7 @@ def mentions(path, text):
     names, modules = imports(path)
     here = {b.name for b in blocks(path)} if path.suffix == '.antt' else set()
     inner = {n: b.name for b in blocks(path) for n in b.inner} if path.suffix == '.antt' else {}
-    mixfix = {p: n for n in list(names) + list(here) if n.startswith('_') for p in n.split('_') if p}
+    mixfix = {p: n for n in [*inner, *names, *here] if '◌' in n for p in n.split('◌') if p}
     for word in TOKEN.findall(text):
         first, _, rest = word.partition('.')
         first = mixfix.get(first, first)
@@ -229,8 +261,7 @@ def reached():
         if public:
             start = next(i for i, row in enumerate(lines_of(exports)) if re.search(r'\bfn %s\b' % name, row))
             found[exports].update(range(start, start + text.count('\n')))
-            clauses = ' '.join(re.findall(r'ensures \{(.*)\}', text))
-            todo += list(mentions(exports, clauses))
+            todo += list(mentions(exports, ' '.join(clauses(text, 'ensures'))))
     seen = set()
     while todo:
         path, name = todo.pop()
@@ -252,9 +283,9 @@ def reached():
 
 def trust_table():
     """The table of docs/TRUST.md: of each file the lines to read and all its lines, crates from the lowest up."""
-    order = [line.split(':')[0] for line in (ROOT / 'crates.txt').read_text().split('\n') if ':' in line and not line.startswith('#')]
     rows, total, found = [], 0, reached()
-    for path in sorted(found, key=lambda p: (p.suffix == '.rt', order.index(p.parts[-3]), p.name)):
+    place = {crate: number for number, crate in enumerate(listed())}
+    for path in sorted(found, key=lambda p: (p.suffix == '.rt', place.get(p.parts[-3], -1), p.name)):
         count = sum(1 for n in found[path] if lines_of(path)[n].strip())
         total += count
         rows.append('| [`%s`](../%s) | %d of %d |' % (shown(path)[7:], shown(path), count, len(lines_of(path)) - 1))
@@ -266,16 +297,52 @@ def trust():
     return [] if '\n'.join(trust_table()) in page else ['docs/TRUST.md: the table of definitions is not what `tests/evidence.py --trust` prints']
 
 
+# ---- the call lists
+
+# the exported functions whose calls stand in the call lists of demand 3, each with the law that says so
+CALL_LAWS = CRATES / 'speckleewe' / 'proofs' / 'CallLaws.antt'
+TIED = (
+    ('speckleewe_acceptor', 'acceptor_next'),
+    ('speckleewe_view_change', 'view_change_next'),
+    ('speckleewe_suspicion', 'suspicion_next'),
+    ('speckleewe_learner', 'learner_next'),
+)
+
+
+def contract_relation(function):
+    """The relation of Outcomes.antt that the whole contract of an exported function is."""
+    head = next((text for name, _, text in functions(ROOT / EXPORTS) if name == function), '')
+    found = re.search(r'ensures \{ (\w+) [^×⊎→≡{}]*\}', head)
+    return found and settle(*imports(ROOT / EXPORTS)[0].get(found.group(1), (ROOT / EXPORTS, found.group(1))))
+
+
+def law_relation(law):
+    """The relation of Outcomes.antt that is the hypothesis of a law of CallLaws.antt, the last thing before what it claims."""
+    block = next((b for b in blocks(CALL_LAWS) if b.name == law), None)
+    text = '\n'.join(lines_of(CALL_LAWS)[block.start:block.end + 1]) if block else ''
+    found = re.search(r'→ (\w+) [^→]*→ Next', text)
+    return found and settle(*imports(CALL_LAWS)[0].get(found.group(1), (CALL_LAWS, found.group(1))))
+
+
+def tied():
+    """Each call that stands in call lists has for its contract what the law that puts it there supposes."""
+    faults = []
+    for function, law in TIED:
+        contract, supposed = contract_relation(function), law_relation(law)
+        if not contract or contract != supposed:
+            says, has = (found[1] if found else 'no relation alone' for found in (contract, supposed))
+            faults.append('%s: the contract of %s is %s, but %s of %s supposes %s' % (EXPORTS, function, says, law, shown(CALL_LAWS), has))
+    return faults
+
+
 # ---- README.md and the files
 
 def readme():
     text = (ROOT / 'README.md').read_text()
-    rows = crate_rows(text)
-    listed = {line.split(':')[0] for line in (ROOT / 'crates.txt').read_text().split('\n') if ':' in line and not line.startswith('#')}
-    crates = {path.parts[-3] for path in sources('*/src/*.rt')}
-    return (['README.md: the map has no row for %s' % c for c in sorted(listed - rows)]
-            + ['README.md: the map has a row for %s, which is no crate' % c for c in sorted(crate_rows(text) - listed)]
-            + ['crates.txt: %s is not listed, or is not there' % c for c in sorted(listed ^ crates)]
+    rows, crates, there = crate_rows(text), set(listed()), {path.parts[-3] for path in sources('*/src/*.rt')}
+    return (['README.md: the map has no row for %s' % c for c in sorted(crates - rows)]
+            + ['README.md: the map has a row for %s, which is no crate' % c for c in sorted(rows - crates)]
+            + ['crates.txt: %s is not listed, or is not there' % c for c in sorted(crates ^ there)]
             + ['README.md: %s is not filled in' % word for word in re.findall(r'@\w+', text)])
 
 
@@ -286,11 +353,33 @@ def crate_rows(text):
 
 
 def laws():
-    """Laws have hyphens in their names; each that a page names must be there."""
-    known = {name for path in sources('*/specs/**/*.antt') + sources('*/proofs/**/*.antt') for name in declared(path)}
+    """A name of several words in a page, as laws and functions have, must be declared: in a crate, the header or an edit, or as a crate."""
+    known = {word for path in sources('*/specs/**/*.antt') + sources('*/proofs/**/*.antt') + sources('*/src/*.rt') for word in declared(path)}
+    known |= {name.split('::')[-1] for name in known} | declared(ROOT / 'include' / 'speckleewe.h') | set(listed())
+    known |= {path.stem for path in sources('*/must-fail/*.edit') + sources('*/wrong/*.edit')}
+    known |= {field for path in sources('*/src/*.rt') for field in re.findall(r'^    (?:pub )?(\w+): ', path.read_text(), re.M)}
+    known |= STD
     return ['%s names %s, which is nowhere' % (shown(page), name)
-            for page in [ROOT / 'README.md'] + sorted((ROOT / 'docs').glob('*.md')) if page.name != 'WRONG-PROGRAMS.md'
-            for name in sorted(set(re.findall(r'`([a-z]+(?:-[a-z0-9]+)+)`', page.read_text()))) if name not in known and not linked_there(page, name)]
+            for page in pages() for name in sorted(set(re.findall(r'`([a-z]+(?:[-_][a-z0-9]+)+)`', page.read_text()))) if name not in known and not linked_there(page, name)]
+
+
+def pages():
+    """README.md and the pages of docs/, but for the one that tests/wrong_programs.py writes, and for PORT.md, which names what is no longer there."""
+    return [ROOT / 'README.md'] + [page for page in sorted((ROOT / 'docs').glob('*.md')) if page.name not in ('WRONG-PROGRAMS.md', 'PORT.md')]
+
+
+def places():
+    """A file of a crate that a page names, as `history/specs/History.antt`, must be there, and names said to be in it, as `a`, `b` in `FILE`, too."""
+    faults = []
+    for page in pages():
+        text = page.read_text()
+        named = {name: CRATES / name.removeprefix('crates/') for name in re.findall(r'`((?:crates/)?\w+/(?:specs|proofs|src)/[\w/]+\.\w+)`', text)}
+        faults += ['%s names %s, which is not there' % (shown(page), name) for name in sorted(named) if not named[name].is_file()]
+        for names, name in re.findall(r'((?:`[\w:]+`(?:, | and )?)+) ?(?:in|of) `([^`]*)`', text):
+            if name in named and named[name].is_file():
+                faults += ['%s: %s does not declare %s' % (shown(page), name, word)
+                           for word in re.findall(r'`([\w:]+)`', names) if word not in declared(named[name])]
+    return faults
 
 
 def linked_there(page, name):
@@ -301,7 +390,9 @@ def linked_there(page, name):
 def openings():
     faults = []
     for path in sources('*/specs/**/*.antt') + sources('*/proofs/**/*.antt') + sources('*/src/*.rt'):
-        if not re.match(r'(--|//) \S', lines_of(path)[0]):
+        # the root of a crate without code has its setting of the prover above the comment
+        first = next((line for line in lines_of(path) if line and line != '#![tactic(auto)]'), '')
+        if not re.match(r'(--|//) \S', first):
             faults.append('%s does not open with what it is for' % shown(path))
     return faults
 
@@ -325,7 +416,7 @@ def main():
     if '--trust' in sys.argv:
         print('\n'.join(trust_table()))
         return
-    faults = trace() + trust() + readme() + laws() + openings() + edits()
+    faults = trace() + trust() + tied() + readme() + laws() + places() + openings() + edits()
     for fault in faults:
         print(fault)
     print('evidence: %s' % ('%d faults' % len(faults) if faults else 'the pages say what is there'))

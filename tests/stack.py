@@ -22,15 +22,17 @@ def frames(archive):
             frame[name], calls[name] = 8, set()
         elif re.search(r'\spush\s', line):
             frame[name] += 8
-        elif m := re.search(r'\ssub\s+\$0x([0-9a-f]+),%rsp', line):
-            frame[name] += int(m.group(1), 16)
+        elif m := re.search(r'\s(sub|add)\s+\$0x([0-9a-f]+),%rsp', line):
+            # a number from 2 ^ 63 on is negative: taking it adds, and adding it takes
+            taken = int(m.group(2), 16) if m.group(1) == 'sub' else -int(m.group(2), 16)
+            frame[name] += max(0, (taken + 2**63) % 2**64 - 2**63)
         elif m := re.search(r'R_X86_64_(?:PLT32|PC32)\s+(?:\.text\.)?(\S+?)-0x4$', line):
             calls[name].add(m.group(1))
         elif re.search(r'\scall\s+\*', line):
             sys.exit(f'stack: {name} calls through a pointer')
         elif (m := re.search(r'\s(?:call|jmp)\s+[0-9a-f]+ <(.*)>$', line)) and m.group(1) == name:
             calls[name].add(name)
-        elif re.search(r'\ssub\s+%\w+,%rsp', line):
+        elif re.search(r',%rsp$|\sleave', line):
             sys.exit(f'stack: the frame of {name} is not fixed')
     return frame, calls
 

@@ -119,6 +119,38 @@ static void paint(void)
     paint_history(&fields.learner.learned);
 }
 
+/* How many bytes of a part of `fields` are padding. */
+static size_t padding(const void *part, size_t size)
+{
+    size_t bytes = 0;
+    for (size_t i = 0; i < size; i++)
+        bytes += !((const uint8_t *)part)[i];
+    return bytes;
+}
+
+/* What the header's layout says: a number stands at a multiple of its size, and a record is as aligned as its widest number. */
+enum { VIEWS_PADDING = 2 + 2, SITE_PADDING = VIEWS_PADDING + 2 + 7 + 7 + 2, LEADER_PADDING = 7 + 7 + 6, LEARNER_PADDING = 7 };
+
+/* `paint` left the padding, and nothing else. */
+static void check_padding(void)
+{
+    if (padding(&fields.site.views, sizeof fields.site.views) != VIEWS_PADDING || padding(&fields.site, sizeof fields.site) != SITE_PADDING ||
+        padding(&fields.leader, sizeof fields.leader) != LEADER_PADDING || padding(&fields.learner, sizeof fields.learner) != LEARNER_PADDING) {
+        fprintf(stderr, "fuzz: the padding that is watched is not that of the layout\n");
+        exit(1);
+    }
+}
+
+/* The padding of the lent record holds bytes that differ from call to call. They are not drawn, so that the calls are those without it. */
+static void fill_padding(void)
+{
+    size_t size;
+    const uint8_t *field = place(&fields, &size);
+    for (size_t i = 0; i < size; i++)
+        if (!field[i])
+            record.bytes[GUARD + i] = (uint8_t)((made + 1) * UINT64_C(0x9e3779b97f4a7c15) >> 32 ^ i);
+}
+
 /* A refused call leaves every field; padding is counted. */
 static void check_kept(void)
 {
@@ -278,6 +310,7 @@ static int lend(const uint8_t *from)
         r[below(call.size)] = (uint8_t)(percent(50) ? random_word() : below(40));
     if (kind == 2)
         change_history(r);
+    fill_padding();
     random_bytes(r + call.size, GUARD);
     random_bytes(out.bytes, GUARD + call.room + GUARD);
     record_before = record;
@@ -379,6 +412,7 @@ int main(int count, char **words)
     line_end = pages + PAGE;
     random_start(seed);
     paint();
+    check_padding();
     check_constants();
     for (made = 0; made < strtoull(words[2], NULL, 10); made++) {
         for (int i = 0; i < LIVES && made % 30000 == 0; i++)
