@@ -23,8 +23,8 @@ use Rattle.table.specs.declared.Table.{Table}
 use Rattle.table.specs.Table.{row_of}
 use Rattle.refusal.specs.declared.Refusal.{Refusal}
 use Rattle.refusal.specs.declared.Refusal.TheVariants.{Config, Contradiction, Full}
-use Rattle.refusal.specs.declared.Answer.{Answer}
-use Rattle.refusal.specs.declared.Answer.TheVariants.{Accepted}
+use Rattle.refusal.specs.Refusal.{Answer}
+use Rattle.refusal.specs.Refusal.{Accepted}
 use Rattle.refusal.specs.Refusal.{is_refused}
 use Rattle.refusal.specs.Rules.{answer}
 use Rattle.refusal.specs.AnswerLaws.{judged_refused, judged_accepted, answer_none}

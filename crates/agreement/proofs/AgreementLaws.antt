@@ -16,7 +16,7 @@ use Rattle.merge.specs.CommonLaws.{none, also, CommonHistory, common_history, co
 use Rattle.table.specs.Table.{sites, row_of}
 use Rattle.table.specs.TableLaws.{row_empty}
 use Rattle.refusal.specs.declared.Refusal.TheVariants.{Split}
-use Rattle.refusal.specs.declared.Answer.TheVariants.{Refused}
+use Rattle.refusal.specs.Refusal.{Refused}
 use Rattle.frame.specs.declared.Frame.{Frame}
 use Rattle.frame.specs.Layout.{first}
 use Rattle.frame.specs.Format.{frame_of}

@@ -9,7 +9,7 @@ use Rattle.command.specs.Command.{conflict}
 use Rattle.history.specs.History.{Extends, Before, repeated}
 use Rattle.history.specs.Words.{limit, commands}
 use Rattle.refusal.specs.declared.Refusal.TheVariants.{Split}
-use Rattle.refusal.specs.declared.Answer.TheVariants.{Refused}
+use Rattle.refusal.specs.Refusal.{Refused}
 use Rattle.frame.specs.Format.{is_line, frame_of}
 use Rattle.learner.specs.declared.Outcome.{Outcome}
 use Rattle.learner.specs.Learner as learner

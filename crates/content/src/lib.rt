@@ -27,10 +27,10 @@ pub fn ordered(h: &[u64]) -> Answer
 {
     let wrong = !command::all_valid(h);
     if wrong {
-        return Answer::Refused(Refusal::Command);
+        return Err(Refusal::Command);
     }
     let improper = history::improper(h);
-    given(improper, Refusal::History, Answer::Accepted)
+    given(improper, Refusal::History, Ok(()))
 }
 
 // The answer to the commands that a proposer asks for, one or more in any order.
@@ -39,10 +39,10 @@ pub fn requested(by: u8, h: &[u64]) -> Answer
 {
     let wrong = !command::all_valid(h) | !command::all_by(by, h);
     if wrong {
-        return Answer::Refused(Refusal::Command);
+        return Err(Refusal::Command);
     }
     let improper = history::repeated(h) | (h.len() == 0);
-    given(improper, Refusal::History, Answer::Accepted)
+    given(improper, Refusal::History, Ok(()))
 }
 
 // The answer to the two histories of a report, what is proven and what is held; either may be empty.
@@ -51,10 +51,10 @@ pub fn reported(proven: &[u64], held: &[u64]) -> Answer
 {
     let wrong = !command::all_valid(proven) | !command::all_valid(held);
     if wrong {
-        return Answer::Refused(Refusal::Command);
+        return Err(Refusal::Command);
     }
     let improper = disordered(proven) | disordered(held);
-    given(improper, Refusal::History, Answer::Accepted)
+    given(improper, Refusal::History, Ok(()))
 }
 
 // The answer to new commands h by the list that they are appended to, under a limit; one over 32 counts as 32. Each test reads all of the list, so
@@ -64,14 +64,14 @@ pub fn appendable<'a>(limit: u8, list: &'a [u64], h: &'a [u64]) -> Answer
 {
     let reused = merge::reuses(list, h);
     if reused {
-        return Answer::Refused(Refusal::Reused);
+        return Err(Refusal::Reused);
     }
     let nothing = merge::nothing_new(list, h);
     if nothing {
-        return Answer::Refused(Refusal::Nothing);
+        return Err(Refusal::Nothing);
     }
     let full = merge::overflows(limit, list, h);
-    given(full, Refusal::Full, Answer::Accepted)
+    given(full, Refusal::Full, Ok(()))
 }
 
 // Whether neither of a site's entry and h extends the other, of lists that a union of two histories can be: a longer one extends nothing here.

@@ -1,7 +1,7 @@
 // Histories: the test for a repeated proposer and serial, canonical order, and extension.
 #![tactic(auto)]
 
-ghost use Rattle.std.specs.Prelude.{◌≡◌, true, ◌≤◌, ◌<◌, length, take, drop, get_or};
+ghost use Rattle.std.specs.Prelude.{◌≡◌, min, true, ◌≤◌, ◌<◌, length, take, drop, get_or};
 ghost use Rattle.history.specs.History as spec;
 ghost use Rattle.history.specs.Code.Insertion as insertion;
 ghost use Rattle.history.specs.Front as front;
@@ -305,24 +305,45 @@ pub fn extends(h: &[u64], g: &[u64]) -> bool
     }
 }
 
+// How many commands of h there is room for.
+fn count_of(h: &[u64]) -> u8
+    ensures { result ≡ min (length h.now) words.capacity }
+{
+    h.len().min(words::CAPACITY) as u8
+}
+
 impl History {
     // The first commands of h, as many as there is room for, and zeros after them.
     pub fn of(h: &[u64]) -> History
         ensures { result ≡ words.stored h.now }
     {
-        let mut w = [0u64; words::CAPACITY];
-        fill(&mut w, h);
-        let n = h.len();
-        if n < words::CAPACITY {
-            History {
-                count: n as u8,
-                words: w,
-            }
-        } else {
-            History {
-                count: 32,
-                words: w,
-            }
+        let mut words = [0u64; words::CAPACITY];
+        fill(&mut words, h);
+        History {
+            count: count_of(h),
+            words,
         }
+    }
+
+    // The commands: the first `count` words, or all of them if there are fewer.
+    pub fn commands(&self) -> &[u64]
+        ensures { result.now ≡ words.commands self.now }
+    {
+        first(&self.words, self.count as usize)
+    }
+
+    // Whether it may be lent: at most as many commands as the limit says, and valid.
+    pub fn is_valid(&self, limit: u8) -> bool
+        ensures { result ≡ valid_stored limit self.now }
+    {
+        lendable(limit, &self.words, self.count)
+    }
+
+    // Makes h the history, as much of it as there is room for, and leaves zeros after it.
+    pub fn set(&mut self, h: &[u64])
+        ensures { self.new ≡ words.stored h.now }
+    {
+        fill(&mut self.words, h);
+        self.count = count_of(h);
     }
 }

@@ -26,8 +26,8 @@ use Rattle.table.specs.TableLaws.{stored_in_lem}
 use Rattle.proposal.specs.Proposal.{proposal, remaining}
 use Rattle.proposal.proofs.ProposalLaws.{proposal_short}
 use Rattle.refusal.specs.declared.Refusal.{Refusal}
-use Rattle.refusal.specs.declared.Answer.{Answer}
-use Rattle.refusal.specs.declared.Answer.TheVariants.{Accepted}
+use Rattle.refusal.specs.Refusal.{Answer}
+use Rattle.refusal.specs.Refusal.{Accepted}
 use Rattle.refusal.specs.Refusal.{is_refused}
 use Rattle.refusal.specs.Rules.{answer}
 use Rattle.refusal.specs.AnswerLaws.{judged_refused, judged_accepted}

@@ -31,7 +31,7 @@ use Rattle.proposal.specs.ProposalLaws.{Longest}
 use Rattle.proposal.proofs.ProposalLaws.{report_marked, report_keeps, longest_is, longest_short, proposal_extends, proposal_valid, remaining_holds, remaining_short, kept_or_proposed}
 use Rattle.proposal.proofs.ProposalLaws as proposals
 use Rattle.refusal.specs.declared.Refusal.{Refusal}
-use Rattle.refusal.specs.declared.Answer.TheVariants.{Accepted}
+use Rattle.refusal.specs.Refusal.{Accepted}
 use Rattle.refusal.specs.declared.Refusal.TheVariants.{Config, Form, Sender, Stale, Proof, Command, History as Improper, Reused, Nothing, Full}
 use Rattle.refusal.specs.AnswerLaws.{accepted_not_refused}
 use Rattle.refusal.specs.Rules.{Rule, ◌gives◌, judged}

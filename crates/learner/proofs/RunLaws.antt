@@ -17,7 +17,7 @@ use Rattle.table.specs.TableLaws.{empty_sized}
 use Rattle.table.specs.ValidLaws.{valid_empty}
 use Rattle.refusal.specs.declared.Refusal.{Refusal}
 use Rattle.learner.specs.declared.State.{State}
-use Rattle.refusal.specs.declared.Answer.TheVariants.{Accepted, Refused}
+use Rattle.refusal.specs.Refusal.{Accepted, Refused}
 use Rattle.refusal.specs.AnswerLaws.{accepted_not_refused, refused_same}
 use Rattle.learner.specs.declared.Outcome.{Outcome}
 use Rattle.learner.specs.Learner.{fresh, config, step, vote, arrived, refuse}

@@ -26,8 +26,8 @@ use Rattle.table.specs.TableLaws.{Sized, row_stored_other, stored_in_lem}
 use Rattle.content.specs.ContentLaws as content
 use Rattle.refusal.specs.declared.Refusal.{Refusal}
 use Rattle.refusal.specs.declared.Refusal.TheVariants.{Config, Sender, Contradiction}
-use Rattle.refusal.specs.declared.Answer.{Answer}
-use Rattle.refusal.specs.declared.Answer.TheVariants.{Accepted}
+use Rattle.refusal.specs.Refusal.{Answer}
+use Rattle.refusal.specs.Refusal.{Accepted}
 use Rattle.refusal.specs.Refusal.{is_refused}
 use Rattle.refusal.specs.Rules.{Rule, ◌gives◌, judged, answer}
 use Rattle.refusal.specs.AnswerLaws.{stops, judged_refused, judged_accepted, answer_none}

@@ -19,7 +19,7 @@ use Rattle.table.specs.Table.{sites, row_of}
 use Rattle.table.specs.TableLaws.{Sized, row_stored, row_stored_other}
 use Rattle.refusal.specs.declared.Refusal.{Refusal}
 use Rattle.refusal.specs.declared.Refusal.TheVariants.{Form, Sender, Command, History as Improper, Split, Full}
-use Rattle.refusal.specs.declared.Answer.TheVariants.{Refused}
+use Rattle.refusal.specs.Refusal.{Refused}
 use Rattle.refusal.specs.AnswerLaws.{accepted_not_refused, refused_same}
 use Rattle.refusal.specs.Refusal.{number}
 use Rattle.refusal.specs.Rules.{Rule, ◌gives◌}

@@ -20,7 +20,7 @@ use Rattle.frame.specs.declared.Frame.{Frame}
 use Rattle.frame.specs.Layout.{first}
 use Rattle.frame.specs.Format.{reading_of, malformed}
 use Rattle.learner.specs.declared.State.{State}
-use Rattle.refusal.specs.declared.Answer.TheVariants.{Accepted, Refused}
+use Rattle.refusal.specs.Refusal.{Accepted, Refused}
 use Rattle.learner.specs.declared.Outcome.{Outcome}
 
 -- "fresh: empty"

@@ -1,5 +1,5 @@
 -- The refusals and what a step answers, with their numbers.
-use Rattle.std.specs.Prelude.{ℕ, Bool, true, false}
+use Rattle.std.specs.Prelude.{ℕ, Bool, true, false, Result, Ok, Err}
 use Rattle.refusal.specs.declared.Refusal.{Refusal}
 use Rattle.refusal.specs.declared.Refusal.TheVariants.{
   Config,
@@ -16,8 +16,6 @@ use Rattle.refusal.specs.declared.Refusal.TheVariants.{
   Nothing,
   Full,
 }
-use Rattle.refusal.specs.declared.Answer.{Answer}
-use Rattle.refusal.specs.declared.Answer.TheVariants.{Accepted, Refused}
 
 -- "Each returns its number only." The columns No. and Name of the table of refusals.
 abbrev pub number : Refusal → ℕ
@@ -35,11 +33,21 @@ number Split = 11
 number Nothing = 12
 number Full = 13
 
+-- what a step answers: accepted, or refused for a reason
+abbrev pub Answer : Type 0
+Answer = Result (Unit {0}) Refusal
+
+abbrev pub Accepted : Answer
+Accepted = Ok tt
+
+abbrev pub Refused : Refusal → Answer
+Refused e = Err e
+
 -- "An accepted frame answers 0", a refused one its refusal's number
 abbrev pub answer_number : Answer → ℕ
-answer_number Accepted = 0
-answer_number (Refused e) = number e
+answer_number (Ok _) = 0
+answer_number (Err e) = number e
 
 abbrev pub is_refused : Answer → Bool
-is_refused Accepted = false
-is_refused (Refused e) = true
+is_refused (Ok _) = false
+is_refused (Err e) = true

@@ -1,8 +1,8 @@
 -- "Checks run in this order; the first that applies is given."
 use Rattle.std.specs.Prelude.{Bool, cond, List, [], ◌∷◌}
 use Rattle.refusal.specs.declared.Refusal.{Refusal}
-use Rattle.refusal.specs.declared.Answer.{Answer}
-use Rattle.refusal.specs.declared.Answer.TheVariants.{Accepted, Refused}
+use Rattle.refusal.specs.Refusal.{Answer}
+use Rattle.refusal.specs.Refusal.{Accepted, Refused}
 
 infix 68 ◌gives◌
 -- a rule: the refusal is given where the test holds

@@ -11,7 +11,7 @@ use Rattle.roster.specs.Mask.{bit}
 use Rattle.roster.specs.MaskLaws.{bit_out}
 use Rattle.roster.specs.Sites.{all_to}
 use Rattle.roster.specs.SitesLaws.{all_each}
-use Rattle.refusal.specs.declared.Answer.TheVariants.{Accepted}
+use Rattle.refusal.specs.Refusal.{Accepted}
 use Rattle.refusal.specs.AnswerLaws.{accepted_not_refused}
 use Rattle.frame.specs.Format.{malformed, reading_of}
 use Rattle.frame.specs.FormatLaws.{found_taken}

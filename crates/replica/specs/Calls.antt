@@ -3,7 +3,7 @@
 use Rattle.std.specs.Prelude.{Bool, cond, List, [], ◌∷◌, ℕ}
 use Rattle.roster.specs.declared.Roster.{Roster}
 use Rattle.roster.specs.Mask.{bit}
-use Rattle.refusal.specs.declared.Answer.{Answer}
+use Rattle.refusal.specs.Refusal.{Answer}
 use Rattle.frame.specs.Format.{frame_of}
 use Rattle.viewchange.specs.ViewChange as viewchange
 use Rattle.acceptor.specs.Acceptor as acceptor

@@ -4,7 +4,7 @@
 use Rattle.std.specs.Prelude.{◌≡◌, List, [], ◌∷◌, ℕ}
 use mathlib.Core.List.{map}
 use Rattle.refusal.specs.declared.Refusal.TheVariants.{Stale}
-use Rattle.refusal.specs.declared.Answer.TheVariants.{Accepted, Refused}
+use Rattle.refusal.specs.Refusal.{Accepted, Refused}
 use Rattle.site.specs.declared.ViewRecord.{ViewRecord}
 use Rattle.viewchange.specs.ViewChange as viewchange
 use Rattle.acceptor.specs.Acceptor as acceptor

@@ -9,24 +9,10 @@ ghost use Rattle.roster.specs.Mask.{reaches, beyond, unproven, bit, with_site};
 
 // A count of views, from 0.
 #[repr(C)]
-#[derive(Clone, Copy)]
+#[derive(Clone, Copy, PartialEq, Eq, PartialOrd, Ord)]
 pub struct View(pub u32);
 
 impl View {
-    // Whether it is the same view.
-    pub fn equals(self, view: View) -> bool
-        ensures { result ≡ counts.same_view self view }
-    {
-        self.0 == view.0
-    }
-
-    // Whether it is a later view.
-    pub fn above(self, view: View) -> bool
-        ensures { result ≡ counts.later_view self view }
-    {
-        view.0 < self.0
-    }
-
     // Whether it is view 0, which is no target.
     pub fn is_zero(self) -> bool
         ensures { result ≡ counts.zero_view self }
@@ -44,24 +30,10 @@ impl View {
 
 // A count of ballots, from 0.
 #[repr(C)]
-#[derive(Clone, Copy)]
+#[derive(Clone, Copy, PartialEq, Eq, PartialOrd, Ord)]
 pub struct Ballot(pub u32);
 
 impl Ballot {
-    // Whether it is the same ballot.
-    pub fn equals(self, ballot: Ballot) -> bool
-        ensures { result ≡ counts.same_ballot self ballot }
-    {
-        self.0 == ballot.0
-    }
-
-    // Whether it is a later ballot.
-    pub fn above(self, ballot: Ballot) -> bool
-        ensures { result ≡ counts.later_ballot self ballot }
-    {
-        ballot.0 < self.0
-    }
-
     // Whether it is ballot 0.
     pub fn is_zero(self) -> bool
         ensures { result ≡ counts.zero_ballot self }

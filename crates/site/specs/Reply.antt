@@ -1,8 +1,8 @@
 -- What a call of a role that sends does: its answer, the state after it, and at most one frame to send.
 use Rattle.std.specs.Prelude.{◌≡◌, Bool, cond, List, ℕ}
 use Rattle.refusal.specs.declared.Refusal.{Refusal}
-use Rattle.refusal.specs.declared.Answer.{Answer}
-use Rattle.refusal.specs.declared.Answer.TheVariants.{Accepted, Refused}
+use Rattle.refusal.specs.Refusal.{Answer}
+use Rattle.refusal.specs.Refusal.{Accepted, Refused}
 use Rattle.frame.specs.declared.Frame.{Frame}
 use Rattle.frame.specs.Format.{written_length, written}
 

@@ -104,4 +104,33 @@ impl Table {
             words: [0u64; 512],
         }
     }
+
+    // History `site`; an empty one where it is out of range.
+    pub fn row(&self, site: usize) -> &[u64]
+        ensures { result.now ≡ spec.row_of self.now site }
+    {
+        row(&self.words, &self.counts, site)
+    }
+
+    // Stores h as row `site`; the table stays where there is no such row, or h is too long for one.
+    pub fn store(&mut self, site: usize, h: &[u64])
+        ensures { self.new ≡ spec.stored_at self.old site h.now }
+    {
+        store(&mut self.words, &mut self.counts, site, h);
+    }
+
+    // Whether every row is one that lent state may hold, under a limit and for n sites.
+    #[tactic(auto, unfolding(crate::specs::Table::valid_table))]
+    pub fn is_valid(&self, limit: u8, n: u8) -> bool
+        ensures { result ≡ spec.valid_table limit n self.now }
+    {
+        rows_valid(limit, &self.words, &self.counts, n)
+    }
+
+    // Empties every row.
+    pub fn clear(&mut self)
+        ensures { self.new ≡ spec.empty_table }
+    {
+        *self = Table::empty();
+    }
 }

@@ -10,8 +10,8 @@ use Rattle.words.specs.Sizes.{limit}
 use Rattle.roster.specs.declared.Roster.{Roster}
 use Rattle.refusal.specs.declared.Refusal.{Refusal}
 use Rattle.refusal.specs.declared.Refusal.TheVariants.{Config, Full}
-use Rattle.refusal.specs.declared.Answer.{Answer}
-use Rattle.refusal.specs.declared.Answer.TheVariants.{Refused}
+use Rattle.refusal.specs.Refusal.{Answer}
+use Rattle.refusal.specs.Refusal.{Refused}
 use Rattle.refusal.specs.Refusal.{is_refused}
 use Rattle.refusal.specs.Rules.{judged, answer}
 use Rattle.refusal.specs.AnswerLaws.{judged_refused, judged_accepted, answer_none}

@@ -1,7 +1,7 @@
 -- `acceptor::request::check` meets its contract: a tier that refuses is the answer, else the next tier is.
 use mathlib.Core.Path.{ap, sym, ◌∙◌}
 use mathlib.Core.Bool.{not}
-use Rattle.refusal.specs.declared.Answer.TheVariants.{Accepted, Refused}
+use Rattle.refusal.specs.Refusal.{Accepted, Refused}
 use Rattle.refusal.specs.RulesLaws.{judged_first, judged_next}
 use Rattle.refusal.specs.AnswerLaws.{stops, goes_on}
 use Rattle.acceptor.proofs.Tests.{extends_is}
