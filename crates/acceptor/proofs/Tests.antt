@@ -31,7 +31,7 @@ use Rattle.refusal.specs.AnswerLaws.{judged_refused, judged_accepted, answer_non
 use Rattle.refusal.specs.JudgedLaws.{NoneHolds, test_of, no_test}
 use Rattle.frame.specs.declared.Frame.{Frame}
 use Rattle.frame.specs.declared.Heading.{Heading}
-use Rattle.frame.specs.declared.Reading.{Reading}
+use Rattle.frame.specs.Format.{Reading}
 use Rattle.frame.specs.Format.{reading_of, reading_with, frame_with, malformed}
 use Rattle.frame.specs.FormatLaws.{read_n}
 use Rattle.site.specs.declared.ViewRecord.{ViewRecord}

@@ -5,6 +5,7 @@ use mathlib.Core.Path.{◌≡◌, refl, sym, ap, ◌∙◌}
 use mathlib.Core.Bool.{true}
 use mathlib.Core.List.{List, []}
 use lib.ListN.{length, get_or, take, drop, replicate}
+use Rattle.std.specs.Prelude.{Some}
 use Rattle.frame.specs.declared.Heading.{Heading}
 use Rattle.frame.specs.Hex.{all_digits, numbers}
 use Rattle.frame.specs.Layout.{frame_capacity}
@@ -29,7 +30,7 @@ module _ (l : List ℕ) (kinds : ℕ) (hd : Heading) (f : Found 0 l kinds hd) wh
     pub bare_feed : (get_or l 36 0 ≡ 10 → ⊥) → nothing ≡ reading_of 0 l kinds
     bare_feed x = rest_bad 0 l kinds hd f (no_feed l hd.n hd.m (found_counted f) long (λ p. x (ap (λ (k : ℕ). get_or l k 0) at ∙ p)))
 
-    pub bare_found : get_or l 36 0 ≡ 10 → reading_with hd (replicate frame_capacity 0) ≡ reading_of 0 l kinds
+    pub bare_found : get_or l 36 0 ≡ 10 → reading_with (Some hd) (replicate frame_capacity 0) ≡ reading_of 0 l kinds
     unfolding all_digits numbers
     bare_found x =
         let k = hd.n + hd.m in

@@ -13,14 +13,16 @@ use Rattle.basics.specs.Bools.{and_left, and_right}
 use Rattle.basics.specs.Lists.{drop_zeros}
 use Rattle.roster.specs.Mask.{bit}
 use Rattle.words.specs.WordsLaws.{padded_zeros}
+use Rattle.std.specs.Prelude.{Some}
+use Rattle.frame.specs.declared.Frame.{Frame}
 use Rattle.frame.specs.declared.Heading.{Heading}
 use Rattle.frame.specs.Hex.{all_digits, numbers, all_fit, total}
 use Rattle.frame.specs.HexLaws.{fit_at, all_append, numbers_fit, numbers_take, length_numbers}
 use Rattle.frame.specs.Layout.{command_width, frame_capacity, widths, count, line_length}
 use Rattle.frame.specs.Kinds.{uses, is_kind, zero_unless, unused_zero}
-use Rattle.frame.specs.Format.{commands, line_feed, proper, framed, frame_of, is_line, nothing, reading_of, reading_with}
+use Rattle.frame.specs.Format.{Reading, commands, line_feed, proper, framed, frame_of, is_line, nothing, reading_of, reading_with}
 use Rattle.frame.specs.FormatLaws.{total_commands}
-use Rattle.frame.specs.Code.Leaves.{NumbersIn, proper_header, Fitting, Headed, Counted, Found, HeadIn, heading_of, no_heading, body_good, body_reading, BodyIn}
+use Rattle.frame.specs.Code.Leaves.{NumbersIn, proper_header, Fitting, Headed, Counted, Found, heading_of, body_good, body_reading, BodyIn}
 
 abbrev zeros : ℕ → List ℕ
 zeros n = replicate n 0
@@ -223,30 +225,18 @@ module _ (limit : ℕ) (l h : List ℕ) (kinds : ℕ) (long : 37 ≤ length l) (
     pub head_not_taken : bit kinds (get_or h 0 0) ≡ false → nothing ≡ reading_of limit l kinds
     head_not_taken e = not_taken limit l kinds (ap (λ (xs : List ℕ). bit kinds (get_or xs 0 0)) (sym values_are) ∙ e)
 
-    pub head_found : proper_header limit h ≡ true → bit kinds (get_or h 0 0) ≡ true → {hd : Heading} → hd ≡ heading_of h → HeadIn limit l kinds hd
+    pub head_found : proper_header limit h ≡ true → bit kinds (get_or h 0 0) ≡ true → {hd : Heading} → hd ≡ heading_of h → Found limit l kinds hd
     unfolding total
     head_found e b f =
         record {
-          found = λ p.
-              record {
-                headed = record { long = long; spelled = sym r.all ∙ g; proper = ap (proper_header limit) (sym values_are) ∙ e };
-                heading = f ∙ ap heading_of values_are;
-                taken = ap (λ (xs : List ℕ). bit kinds (get_or xs 0 0)) (sym values_are) ∙ b;
-              };
-          missing = λ p. absurd (true≢false (sym (ap (λ (x : Heading). x.found) f) ∙ p));
+          headed = record { long = long; spelled = sym r.all ∙ g; proper = ap (proper_header limit) (sym values_are) ∙ e };
+          heading = f ∙ ap heading_of values_are;
+          taken = ap (λ (xs : List ℕ). bit kinds (get_or xs 0 0)) (sym values_are) ∙ b;
         }
 
     pub head_fitting : Fitting h
     unfolding total
     head_fitting = subst Fitting (sym values_are) (header_fits l long (sym r.all ∙ g))
-
--- where there is no frame, none is found
-pub no_head_lem : {limit : ℕ} {l : List ℕ} {kinds : ℕ} {hd : Heading} → hd ≡ no_heading → nothing ≡ reading_of limit l kinds → HeadIn limit l kinds hd
-no_head_lem e f =
-    record {
-      found = λ p. absurd (true≢false (sym p ∙ ap (λ (x : Heading). x.found) e));
-      missing = λ p. record { heading = e; none = f };
-    }
 
 -- ---- the line after its header was found
 
@@ -261,14 +251,19 @@ module _ (limit : ℕ) (l : List ℕ) (kinds : ℕ) (hd : Heading) (f : Found li
   pub rest_bad : false ≡ body_good l → nothing ≡ reading_of limit l kinds
   rest_bad e = judged false e
 
-  pub rest_good : {ws : List ℕ} → true ≡ body_good l → ws ≡ (frame_of l).words → reading_with hd ws ≡ reading_of limit l kinds
+  pub rest_good : {ws : List ℕ} → true ≡ body_good l → ws ≡ (frame_of l).words → reading_with (Some hd) ws ≡ reading_of limit l kinds
   unfolding frame_of framed
-  rest_good e w = ap₂ reading_with f.heading w ∙ judged true e
-
-pub none_read : (limit : ℕ) (l : List ℕ) (kinds : ℕ) {hd : Heading} → hd ≡ no_heading → nothing ≡ reading_of limit l kinds
-    → reading_with hd (replicate frame_capacity 0) ≡ reading_of limit l kinds
-none_read limit l kinds e f = ap (λ (x : Heading). reading_with x (replicate frame_capacity 0)) e ∙ f
+  rest_good e w = ap₂ (λ (x : Heading) (ws : List ℕ). reading_with (Some x) ws) f.heading w ∙ judged true e
 
 -- the limit as the code has it
 pub same_limit : {a b : ℕ} (l : List ℕ) (kinds : ℕ) → a ≡ b → reading_of a l kinds ≡ reading_of b l kinds
 same_limit l kinds e = ap (λ (n : ℕ). reading_of n l kinds) e
+
+-- what is not found is nothing, whatever words are left beside it
+pub nothing_read : (limit : ℕ) (l : List ℕ) (kinds : ℕ) (f : Frame) → record { found = false; frame = f } ≡ reading_of limit l kinds → nothing ≡ reading_of limit l kinds
+unfolding reading_of
+nothing_read limit l kinds f = go (is_line limit l && bit kinds (frame_of l).kind)
+  where
+    go : (b : Bool) → record { found = false; frame = f } ≡ cond b (record { found = true; frame = frame_of l }) nothing → nothing ≡ cond b (record { found = true; frame = frame_of l }) nothing
+    go true e = absurd (true≢false (sym (ap (λ (r : Reading). r.found) e)))
+    go false e = refl

@@ -9,9 +9,10 @@ use lib.Dec.{leb}
 use lib.ListN.{length, get_or, take, drop, set, length-set, length-replicate, get_or-replicate, length-append, length-drop, drop_of_length-le, take-append-drop}
 use lib.Seq.{take-suc-set, take_all, take_at, drop-drop, length-take-le, append_snoc}
 use borrow.Author.Tests.{leb-true}
+use Rattle.std.specs.Prelude.{Option, None, Some}
+use Rattle.std.proofs.lemmas.Option.{cond_some}
 use Rattle.basics.specs.Bools.{every_at, every_below}
 use Rattle.basics.specs.Lists.{drop_next}
-use Rattle.frame.specs.declared.Spelled.{Spelled}
 use Rattle.frame.specs.Hex.{all_digits, number, digits_of, spell, numbers, total}
 use Rattle.frame.specs.HexLaws.{all_append, length_digits}
 use Rattle.frame.specs.Layout.{widths, command_width}
@@ -94,43 +95,44 @@ pub record Gathering (ws l xs : List ℕ) (at k : ℕ) : Type 0 where
   pub digits : all_digits (drop at l) ≡ all_digits l
   pub values : take k xs ++ numbers (drop k ws) (drop at l) ≡ numbers ws l
 
+cond_none : {A : Type 0} (b : Bool) (x : A) → cond b (Some x) None ≡ None → b ≡ false
+cond_none true x e = cc
+cond_none false x e = refl
+
 pub gathering_start : (ws l xs : List ℕ) → length xs ≡ length ws → length l ≡ 2 * total ws → Gathering ws l xs 0 0
 gathering_start ws l xs e f = record { inside = zero-le; size = e; left = omega arith; digits = refl; values = refl }
 
-module _ (ws l xs : List ℕ) (at k : ℕ) (inv : Gathering ws l xs at k) (h : k < length ws) (end : ℕ) (e : end ≡ at + 2 * get_or ws k 0) (s : Spelled) (f : s ≡ number_in (take (end - at) (drop at l))) where
-  good_is : s.good ≡ all_digits (take (end - at) (drop at l))
-  unfolding number_in
-  good_is = ap (λ (r : Spelled). r.good) f
-
+module _ (ws l xs : List ℕ) (at k : ℕ) (inv : Gathering ws l xs at k) (h : k < length ws) (end : ℕ) (e : end ≡ at + 2 * get_or ws k 0) (s : Option ℕ) (f : s ≡ number_in (take (end - at) (drop at l))) where
   -- not all are digits
-  pub gathering_stop : s.good ≡ false → (ys : List ℕ) → NumbersIn ws l false ys
+  pub gathering_stop : s ≡ None → (ys : List ℕ) → NumbersIn ws l false ys
+  unfolding number_in
   gathering_stop g ys =
-      let bad : all_digits (take (end - at) (drop at l)) ≡ false = sym good_is ∙ g in
+      let bad : all_digits (take (end - at) (drop at l)) ≡ false = cond_none (all_digits (take (end - at) (drop at l))) _ (sym f ∙ g) in
       record {
         all = sym (sym inv.digits ∙ digits_split ws l at k h inv.left end e ∙ ap (λ (b : Bool). b && all_digits (drop end l)) bad);
         are = λ t. absurd (true≢false (sym t));
       }
 
   -- one number more
-  pub gathering_turn : s.good ≡ true → (next : ℕ) → end ≡ next → Gathering ws l (set xs k s.value) next (k + 1)
+  pub gathering_turn : {x : ℕ} → s ≡ Some x → (next : ℕ) → end ≡ next → Gathering ws l (set xs k x) next (k + 1)
   unfolding number_in
-  gathering_turn g next same =
-      let good : all_digits (take (end - at) (drop at l)) ≡ true = sym good_is ∙ g in
-      let value : s.value ≡ number (take (end - at) (drop at l)) =
-      ap (λ (r : Spelled). r.value) f ∙ ap (λ (b : Bool). cond b (number (take (end - at) (drop at l))) 0) good in
-      let front : take (k + 1) (set xs k s.value) ≡ take k xs ++ s.value ∷ [] =
-      ap (λ (n : ℕ). take n (set xs k s.value)) (add-one k) ∙ take-suc-set xs k s.value (omega (arith, inv.size)) in
-      subst (λ (a : ℕ). Gathering ws l (set xs k s.value) a (k + 1)) same
+  gathering_turn {x} g next same =
+      let some = cond_some (all_digits (take (end - at) (drop at l))) _ x (sym f ∙ g) in
+      let good : all_digits (take (end - at) (drop at l)) ≡ true = some.0 in
+      let value : x ≡ number (take (end - at) (drop at l)) = sym some.1 in
+      let front : take (k + 1) (set xs k x) ≡ take k xs ++ x ∷ [] =
+      ap (λ (n : ℕ). take n (set xs k x)) (add-one k) ∙ take-suc-set xs k x (omega (arith, inv.size)) in
+      subst (λ (a : ℕ). Gathering ws l (set xs k x) a (k + 1)) same
       record {
         inside = omega arith;
-        size = length-set xs k s.value ∙ inv.size;
+        size = length-set xs k x ∙ inv.size;
         left = left_next ws l at k h inv.left end e;
         digits =
             sym (digits_split ws l at k h inv.left end e ∙ ap (λ (b : Bool). b && all_digits (drop end l)) good)
             ∙ inv.digits;
         values =
             ap (λ (t : List ℕ). t ++ numbers (drop (k + 1) ws) (drop end l)) front
-            ∙ append_snoc (take k xs) s.value (numbers (drop (k + 1) ws) (drop end l))
+            ∙ append_snoc (take k xs) x (numbers (drop (k + 1) ws) (drop end l))
             ∙ ap (λ (n : ℕ). take k xs ++ n ∷ numbers (drop (k + 1) ws) (drop end l)) value
             ∙ ap (λ (t : List ℕ). take k xs ++ t) (sym (numbers_split ws l at k h inv.left end e))
             ∙ inv.values;

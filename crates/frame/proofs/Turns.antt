@@ -12,7 +12,7 @@ use lib.Seq.{drop-cons, drop-set-add}
 use borrow.Author.Tests.{eqb-true, ltb-true, lt-ltb, ne_eqb, eq-eqb}
 use Rattle.basics.specs.Lists.{drop_next}
 use Rattle.basics.specs.Bools.{and_left, and_right, every_at, every_below}
-use Rattle.frame.specs.declared.Spelled.{Spelled}
+use Rattle.std.specs.Prelude.{Option, None, Some}
 use Rattle.frame.specs.Hex.{digit, is_digit, value_of, all_digits, byte_of, number_from, number, digits_of}
 use Rattle.frame.specs.HexLaws.{value_lt}
 use Rattle.frame.specs.Kinds.{uses, is_kind, zero_unless}
@@ -146,13 +146,13 @@ module _ (l : List ℕ) (width x i : ℕ) (inv : Spelling l width x i) where
     both_fine = ap₂ (λ (x y : ℕ). ltb x 16 && ltb y 16) ep eq ∙ ap₂ ◌&&◌ (fine_is a) (fine_is b)
 
     -- not both are digits
-    pub spelling_stop : (ltb p 16 && ltb q 16) ≡ false → ◌≡◌ {A = Spelled} (record { good = false; value = 0 }) (number_in l)
+    pub spelling_stop : (ltb p 16 && ltb q 16) ≡ false → ◌≡◌ {A = Option ℕ} None (number_in l)
     unfolding number_in all_digits
     spelling_stop h =
         let bad : all_digits l ≡ false =
         sym inv.digits ∙ ap all_digits next ∙ sym (and_assoc (is_digit a) (is_digit b) (all_digits (drop (2 * (i + 1)) l)))
         ∙ ap (λ (t : Bool). t && all_digits (drop (2 * (i + 1)) l)) (sym both_fine ∙ h) in
-        sym (ap (λ (t : Bool). record { good = t; value = cond t (number l) 0 }) bad)
+        sym (ap (λ (t : Bool). cond t (Some (number l)) None) bad)
 
     -- both are, and make a byte
     pub spelling_turn : (ltb p 16 && ltb q 16) ≡ true → Spelling l width (256 * x + 16 * p + q) (i + 1)
@@ -170,13 +170,13 @@ module _ (l : List ℕ) (width x i : ℕ) (inv : Spelling l width x i) where
               ∙ sym (ap (number_from x) next) ∙ inv.value;
         }
 
-  pub spelling_end : length l ≡ 2 * width → width ≤ i → ◌≡◌ {A = Spelled} (record { good = true; value = x }) (number_in l)
+  pub spelling_end : length l ≡ 2 * width → width ≤ i → ◌≡◌ {A = Option ℕ} (Some x) (number_in l)
   unfolding number_in all_digits number_from
   spelling_end size h =
       let over : drop (2 * i) l ≡ [] = drop_of_length-le l {i = 2 * i} (omega arith) in
       let good : true ≡ all_digits l = sym (ap all_digits over) ∙ inv.digits in
       let same : x ≡ number l = sym (ap (number_from x) over) ∙ inv.value in
-      ap₂ (λ (t : Bool) (n : ℕ). record { good = t; value = cond t n 0 }) good same
+      ap₂ (λ (t : Bool) (n : ℕ). cond t (Some n) None) good same
 
 -- ---- one number that is written
 

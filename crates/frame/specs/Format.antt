@@ -1,10 +1,9 @@
 -- What line a frame has, which frames have one, and what frame a line has.
-use Rattle.std.specs.Prelude.{ℕ, ◌-◌, ◌*◌, Bool, true, false, not, cond, ◌&&◌, List, [], ◌∷◌, ◌++◌, leb, eqb, length, get_or, take, drop, replicate}
+use Rattle.std.specs.Prelude.{ℕ, ◌-◌, ◌*◌, Bool, true, false, not, cond, ◌&&◌, List, [], ◌∷◌, ◌++◌, leb, eqb, length, get_or, take, drop, replicate, Option, None, Some}
 use Rattle.words.specs.Sizes.{capacity}
 use Rattle.words.specs.Words.{padded}
 use Rattle.frame.specs.declared.Frame.{Frame}
 use Rattle.frame.specs.declared.Heading.{Heading}
-use Rattle.frame.specs.declared.Reading.{Reading}
 use Rattle.roster.specs.Mask.{bit}
 use Rattle.frame.specs.Hex.{all_digits, spell, numbers, all_fit, total}
 use Rattle.frame.specs.Layout.{command_width, frame_capacity, widths, values, with_values, count, line_length}
@@ -51,7 +50,11 @@ is_line limit l =
     (all_digits (take (length l - 1) l) && eqb (get_or l (length l - 1) 0) line_feed)
     && (eqb (length l) (line_length (count (frame_of l))) && proper limit (frame_of l))
 
--- what is read where there is no frame
+-- what reading a line finds: a frame, or none, and then the frame is all 0
+pub record Reading : Type 0 where
+  pub found : Bool
+  pub frame : Frame
+
 abbrev pub blank : Frame
 blank = with_values [] (replicate frame_capacity 0)
 
@@ -62,11 +65,10 @@ nothing = record { found = false; frame = blank }
 unfoldable pub reading_of : ℕ → List ℕ → ℕ → Reading
 reading_of limit l kinds = cond (is_line limit l && bit kinds (frame_of l).kind) (record { found = true; frame = frame_of l }) nothing
 
--- the heading of a frame, or of none
-abbrev pub head_with : Bool → Frame → Heading
-head_with found f =
+-- the heading of a frame
+abbrev pub head_of : Frame → Heading
+head_of f =
     record {
-      found = found;
       kind = f.kind;
       sender = f.sender;
       view = f.view;
@@ -76,9 +78,6 @@ head_with found f =
       n = f.n;
       m = f.m;
     }
-
-abbrev pub head_of : Frame → Heading
-head_of f = head_with true f
 
 -- a frame whose heading and words are apart, and what is read so
 abbrev pub frame_with : Heading → List ℕ → Frame
@@ -95,8 +94,14 @@ frame_with h ws =
       words = ws;
     }
 
-abbrev pub reading_with : Heading → List ℕ → Reading
-reading_with h ws = record { found = h.found; frame = frame_with h ws }
+abbrev pub reading_with : Option Heading → List ℕ → Reading
+reading_with (Some h) ws = record { found = true; frame = frame_with h ws }
+reading_with None ws = record { found = false; frame = frame_with (head_of blank) ws }
+
+-- what a call that answers a frame or none has read
+abbrev pub reading : Option Frame → Reading
+reading (Some f) = record { found = true; frame = f }
+reading None = nothing
 
 -- FORM, for a role that takes these kinds: "not such a line; unknown kind or one this role doesn't take; unused field not 0; n or m over" the limit
 unfoldable pub malformed : ℕ → List ℕ → ℕ → Bool

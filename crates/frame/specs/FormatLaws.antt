@@ -14,7 +14,7 @@ use Rattle.words.specs.Sizes.{capacity}
 use Rattle.words.specs.Words.{padded}
 use Rattle.words.specs.WordsLaws.{padded_zeros}
 use Rattle.frame.specs.declared.Frame.{Frame}
-use Rattle.frame.specs.declared.Reading.{Reading}
+use Rattle.frame.specs.Format.{Reading}
 use Rattle.roster.specs.Mask.{bit}
 use Rattle.frame.specs.Hex.{all_digits, digits_of, spell, numbers, all_fit, total}
 use Rattle.frame.specs.HexLaws.{all_append, length_spell, all_spell, numbers_spell, numbers_fit, spell_numbers, length_numbers, numbers_take}

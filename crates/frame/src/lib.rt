@@ -52,10 +52,9 @@ pub struct Frame {
     pub words: [u64; CAPACITY],
 }
 
-// A frame's fields but for its commands, and whether there is a frame; where there is none all are 0.
-#[derive(Clone, Copy)]
+// A frame's fields but for its commands.
+#[derive(Clone, Copy, PartialEq, Eq)]
 pub struct Heading {
-    pub found: bool,
     pub kind: u8,
     pub sender: u8,
     pub view: View,
@@ -64,20 +63,6 @@ pub struct Heading {
     pub mask: u16,
     pub n: u8,
     pub m: u8,
-}
-
-// What reading finds: a frame, or none, and then the frame is all 0.
-#[derive(Clone, Copy)]
-pub struct Reading {
-    pub found: bool,
-    pub frame: Frame,
-}
-
-// A number that digits spell, if they are digits.
-#[derive(Clone, Copy)]
-struct Spelled {
-    good: bool,
-    value: u64,
 }
 
 // How many characters the header has, the shortest line, and a command; the most commands of one list.
@@ -127,8 +112,8 @@ fn digit_of(values: &[u8; 256], c: u8) -> u8
     values[c as usize]
 }
 
-// The number of `width` bytes that digits spell.
-fn number(values: &[u8; 256], digits: &[u8], width: usize) -> Spelled
+// The number of `width` bytes that digits spell, if all characters are digits.
+fn number(values: &[u8; 256], digits: &[u8], width: usize) -> Option<u64>
     requires { (values.now ≡ leaves.values) × (width ≤ 8) × (length digits.now ≡ 2 * width) }
     ensures { result ≡ leaves.number_in digits.now }
 {
@@ -139,18 +124,12 @@ fn number(values: &[u8; 256], digits: &[u8], width: usize) -> Spelled
         let b = digit_of(values, digits[2 * i + 1]);
         let fine = (a < 16) & (b < 16);
         if !fine {
-            return Spelled {
-                good: false,
-                value: 0,
-            };
+            return None;
         }
         x = 256 * x + 16 * (a as u64) + b as u64;
         i += 1;
     }
-    Spelled {
-        good: true,
-        value: x,
-    }
+    Some(x)
 }
 
 // The header's values; whether all characters are digits.
@@ -163,11 +142,10 @@ fn read_header(values: &[u8; 256], digits: &[u8], head: &mut [u64]) -> bool
     while k < 8 {
         let width = WIDTHS[k];
         let end = at + 2 * width;
-        let x = number(values, &digits[at..end], width);
-        if !x.good {
+        let Some(x) = number(values, &digits[at..end], width) else {
             return false;
-        }
-        head[k] = x.value;
+        };
+        head[k] = x;
         at = end;
         k += 1;
     }
@@ -183,11 +161,10 @@ fn read_words(values: &[u8; 256], digits: &[u8], words: &mut [u64]) -> bool
     while k < words.len() {
         let at = COMMAND * k;
         let end = at + COMMAND;
-        let x = number(values, &digits[at..end], 8);
-        if !x.good {
+        let Some(x) = number(values, &digits[at..end], 8) else {
             return false;
-        }
-        words[k] = x.value;
+        };
+        words[k] = x;
         k += 1;
     }
     true
@@ -304,30 +281,12 @@ pub fn all_kinds() -> [u8; 10]
     ]
 }
 
-// The heading where there is no frame.
-fn no_heading() -> Heading
-    ensures { result ≡ leaves.no_heading }
-{
-    Heading {
-        found: false,
-        kind: 0,
-        sender: 0,
-        view: View(0),
-        ballot: Ballot(0),
-        proven_ballot: Ballot(0),
-        mask: 0,
-        n: 0,
-        m: 0,
-    }
-}
-
 // The heading of a header's values.
 fn heading_of(head: [u64; 8]) -> Heading
     requires { leaves.Fitting head }
     ensures { result ≡ leaves.heading_of head }
 {
     Heading {
-        found: true,
         kind: head[0] as u8,
         sender: head[1] as u8,
         view: View(head[2] as u32),
@@ -340,27 +299,27 @@ fn heading_of(head: [u64; 8]) -> Heading
 }
 
 // The heading that a line's header spells, if it is proper and the kind is one of the kinds.
-fn read_head(values: &[u8; 256], limit: u8, line: &[u8], kinds: u16) -> Heading
+fn read_head(values: &[u8; 256], limit: u8, line: &[u8], kinds: u16) -> Option<Heading>
     requires { values.now ≡ leaves.values }
     ensures { leaves.HeadIn limit line.now kinds result }
 {
     if line.len() < SHORTEST {
-        return no_heading();
+        return None;
     }
     let mut head = [0u64; 8];
     let spelled = read_header(values, &line[..HEADER], &mut head);
     if !spelled {
-        return no_heading();
+        return None;
     }
     let fine = proper(limit, &head);
     if !fine {
-        return no_heading();
+        return None;
     }
     let taken = roster::contains(kinds, head[0] as u8);
     if !taken {
-        return no_heading();
+        return None;
     }
-    heading_of(head)
+    Some(heading_of(head))
 }
 
 // Whether the rest of a line whose header was read is right, and the commands into words that are 0.
@@ -387,68 +346,61 @@ fn within(limit: u8) -> u8
 }
 
 // Reads a line of one of the kinds (kind k is bit k), with lists of at most `limit` commands, into a heading and lent words: the n commands, then
-// the m, then zeros. A limit over the capacity counts as the capacity.
-pub fn read_into(limit: u8, line: &[u8], kinds: u16, words: &mut [u64; CAPACITY]) -> Heading
+// the m, then zeros; where there is none all words are 0. A limit over the capacity counts as the capacity.
+pub fn read_into(
+    limit: u8,
+    line: &[u8],
+    kinds: u16,
+    words: &mut [u64; CAPACITY],
+) -> Option<Heading>
     ensures { format.reading_with result words.new ≡ format.reading_of (min limit sizes.capacity) line.now kinds }
 {
     *words = [0u64; CAPACITY];
     let values = &VALUES;
-    let h = read_head(values, within(limit), line, kinds);
-    if !h.found {
-        return h;
-    }
+    let h = read_head(values, within(limit), line, kinds)?;
     let good = read_body(values, line, h.n, h.m, words);
-    if good {
-        return h;
+    if !good {
+        *words = [0u64; CAPACITY];
+        return None;
     }
-    *words = [0u64; CAPACITY];
-    no_heading()
+    Some(h)
 }
 
 // Reads a line of one of the kinds that has no commands.
-pub fn read_bare(line: &[u8], kinds: u16) -> Heading
+pub fn read_bare(line: &[u8], kinds: u16) -> Option<Heading>
     ensures { format.reading_with result (replicate layout.frame_capacity 0) ≡ format.reading_of 0 line.now kinds }
 {
-    let h = read_head(&VALUES, 0, line, kinds);
-    if !h.found {
-        return h;
-    }
+    let h = read_head(&VALUES, 0, line, kinds)?;
     if line.len() != SHORTEST {
-        return no_heading();
+        return None;
     }
     if line[HEADER] != FEED {
-        return no_heading();
+        return None;
     }
-    h
+    Some(h)
 }
 
 // The frame of a line, if these characters are a line, of one of the kinds (kind k is bit k), with lists of at most `limit` commands; a limit over
 // the capacity counts as the capacity.
-pub fn read(limit: u8, line: &[u8], kinds: u16) -> Reading
-    ensures { result ≡ format.reading_of (min limit sizes.capacity) line.now kinds }
+pub fn read(limit: u8, line: &[u8], kinds: u16) -> Option<Frame>
+    ensures { format.reading result ≡ format.reading_of (min limit sizes.capacity) line.now kinds }
 {
     let mut words = [0u64; CAPACITY];
-    let h = read_into(limit, line, kinds, &mut words);
-    let view = h.view;
-    let ballot = h.ballot;
-    let proven_ballot = h.proven_ballot;
-    Reading {
-        found: h.found,
-        frame: Frame {
-            kind: h.kind,
-            sender: h.sender,
-            view,
-            ballot,
-            proven_ballot,
-            mask: h.mask,
-            n: h.n,
-            m: h.m,
-            words,
-        },
-    }
+    let h = read_into(limit, line, kinds, &mut words)?;
+    Some(Frame {
+        kind: h.kind,
+        sender: h.sender,
+        view: h.view,
+        ballot: h.ballot,
+        proven_ballot: h.proven_ballot,
+        mask: h.mask,
+        n: h.n,
+        m: h.m,
+        words,
+    })
 }
 
-// Writes the line of a frame with this heading (`found` is not looked at) and these two lists of commands at the front of `out`, and answers its
+// Writes the line of a frame with this heading and these two lists of commands at the front of `out`, and answers its
 // length; 0, and nothing is written, where it has no line, the lists are not n and m long, or there is no room.
 pub fn write_from<'a>(h: Heading, g: &'a [u64], k: &'a [u64], out: &mut [u8]) -> usize
     ensures { (result ≡ format.length_from h g.now k.now out.old) × (out.new ≡ format.written_from h g.now k.now out.old) }
@@ -498,16 +450,12 @@ pub fn write(frame: Frame, out: &mut [u8]) -> usize
     if !clear {
         return 0;
     }
-    let view = frame.view;
-    let ballot = frame.ballot;
-    let proven_ballot = frame.proven_ballot;
     let h = Heading {
-        found: true,
         kind: frame.kind,
         sender: frame.sender,
-        view,
-        ballot,
-        proven_ballot,
+        view: frame.view,
+        ballot: frame.ballot,
+        proven_ballot: frame.proven_ballot,
         mask: frame.mask,
         n: frame.n,
         m: frame.m,

@@ -1,7 +1,7 @@
 -- A frame as the benchmark passes it to and from C.
 use Rattle.std.specs.Prelude.{cond, ℕ}
 use Rattle.frame.specs.declared.Frame.{Frame}
-use Rattle.frame.specs.declared.Reading.{Reading}
+use Rattle.frame.specs.Format.{Reading}
 use Rattle.frame_bench.specs.declared.Flat.{Flat}
 
 -- a frame, flat, with the number that says whether there is one

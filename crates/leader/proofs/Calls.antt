@@ -33,7 +33,7 @@ use Rattle.refusal.specs.Rules.{answer}
 use Rattle.refusal.specs.AnswerLaws.{judged_refused, judged_accepted}
 use Rattle.frame.specs.declared.Frame.{Frame}
 use Rattle.frame.specs.declared.Heading.{Heading}
-use Rattle.frame.specs.declared.Reading.{Reading}
+use Rattle.frame.specs.Format.{Reading}
 use Rattle.frame.specs.Layout.{first, second}
 use Rattle.frame.specs.Format.{reading_of, reading_with, frame_with, malformed}
 use Rattle.site.specs.Message.{message}

@@ -33,7 +33,7 @@ use Rattle.refusal.specs.Rules.{Rule, ◌gives◌, judged, answer}
 use Rattle.refusal.specs.AnswerLaws.{stops, judged_refused, judged_accepted, answer_none}
 use Rattle.refusal.specs.JudgedLaws.{NoneHolds, passed, pass, test_of, no_test}
 use Rattle.frame.specs.declared.Heading.{Heading}
-use Rattle.frame.specs.declared.Reading.{Reading}
+use Rattle.frame.specs.Format.{Reading}
 use Rattle.frame.specs.Format.{reading_of, reading_with, frame_with, malformed}
 use Rattle.frame.specs.FormatLaws.{read_n}
 use Rattle.learner.specs.declared.State.{State}

@@ -16,7 +16,7 @@ use Rattle.refusal.specs.Refusal.{is_refused}
 use Rattle.refusal.specs.Rules.{judged, answer}
 use Rattle.refusal.specs.AnswerLaws.{judged_refused, judged_accepted, answer_none}
 use Rattle.refusal.specs.JudgedLaws.{test_of, no_test}
-use Rattle.frame.specs.declared.Reading.{Reading}
+use Rattle.frame.specs.Format.{Reading}
 use Rattle.frame.specs.Format.{reading_of, malformed}
 use Rattle.site.specs.declared.ViewRecord.{ViewRecord}
 use Rattle.site.specs.Reply.{Reply, refuse}

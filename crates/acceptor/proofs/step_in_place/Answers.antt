@@ -1,7 +1,7 @@
 -- `acceptor::step_in_place` meets its contract: the checks answer by the rules of the line; a refusal leaves all as it is, and an accepted frame is performed.
 use mathlib.Core.Path.{ap}
 use Rattle.words.specs.Sizes.{limit}
-use Rattle.frame.specs.declared.Reading.{Reading}
+use Rattle.frame.specs.Format.{Reading}
 use Rattle.frame.specs.FormatLaws.{read_n}
 use Rattle.acceptor.specs.Acceptor.{taken}
 use Rattle.acceptor.specs.Parts.{state_of}

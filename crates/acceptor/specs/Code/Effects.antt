@@ -6,7 +6,7 @@ use Rattle.refusal.specs.declared.Refusal.TheVariants.{Config, Form}
 use Rattle.refusal.specs.Rules.{Rule, ◌gives◌}
 use Rattle.merge.specs.Merge.{appended}
 use Rattle.content.specs.Content.{contradicts}
-use Rattle.frame.specs.declared.Reading.{Reading}
+use Rattle.frame.specs.Format.{Reading}
 use Rattle.site.specs.declared.ViewRecord.{ViewRecord}
 use Rattle.site.specs.Reply.{Reply, buffer}
 use Rattle.acceptor.specs.declared.State.{State}

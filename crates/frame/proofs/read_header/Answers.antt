@@ -1,5 +1,4 @@
 -- `frame::read_header` meets its contract: the loop keeps that the digits' test and the numbers go on from the field it is at.
-use Rattle.std.proofs.lemmas.Bool.{not-false, not-true}
 use native.Mathlib.Omega.{arith}
 use mathlib.Core.Path.{refl}
 use Rattle.frame.specs.Layout.{widths}
@@ -24,14 +23,11 @@ slice_bounds-number-start c = omega arith
 pub slice_bounds-number-end : goal.slice_bounds-number-end
 slice_bounds-number-end c = omega (arith, end_within widths c.args.digits.now c.loop-k.at c.loop-k.k (omega arith) c.loop-k.invariant.left)
 
-pub number-x-requires : goal.number-x-requires
-number-x-requires c = (c.requires.0, width_most c.loop-k.k (omega arith), part_size widths c.args.digits.now c.loop-k.at c.loop-k.k (omega arith) c.loop-k.invariant.left _ refl)
+pub number-requires : goal.number-requires
+number-requires c = (c.requires.0, width_most c.loop-k.k (omega arith), part_size widths c.args.digits.now c.loop-k.at c.loop-k.k (omega arith) c.loop-k.invariant.left _ refl)
 
-pub shape_of-head-then-not-x : goal.shape_of-head-then-not-x
-shape_of-head-then-not-x c = omega arith
-
-pub returns-then-not-x : goal.returns-then-not-x
-returns-then-not-x c = gathering_stop widths _ _ c.loop-k.at c.loop-k.k c.loop-k.invariant (omega arith) _ refl c.number-x.result c.number-x.ensures (not-true _ c.if-not-x.true) _
+pub returns-in_default : goal.returns-in_default
+returns-in_default c = gathering_stop widths _ _ c.loop-k.at c.loop-k.k c.loop-k.invariant (omega arith) _ refl c.number.result c.number.ensures c.in_default.is _
 
 pub bounds-head-k : goal.bounds-head-k
 bounds-head-k c = omega arith
@@ -43,7 +39,7 @@ pub loop-k-smaller : goal.loop-k-smaller
 loop-k-smaller c = omega arith
 
 pub loop-k-preserved : goal.loop-k-preserved
-loop-k-preserved c = gathering_turn widths _ _ c.loop-k.at c.loop-k.k c.loop-k.invariant (omega arith) _ refl c.number-x.result c.number-x.ensures (not-false _ c.if-not-x.false) _ refl
+loop-k-preserved c = gathering_turn widths _ _ c.loop-k.at c.loop-k.k c.loop-k.invariant (omega arith) _ refl c.number.result c.number.ensures c.in-Some.is _ refl
 
 pub shape_of-head : goal.shape_of-head
 shape_of-head c = omega arith

@@ -1,5 +1,4 @@
 -- `frame::read_words` meets its contract: the loop keeps that the digits' test and the numbers go on from the command it is at.
-use Rattle.std.proofs.lemmas.Bool.{not-false, not-true}
 use Prim.Native.Nat.{◌*◌, ◌+◌}
 use native.Mathlib.Omega.{arith}
 use native.Mathlib.Nat.{le_refl}
@@ -21,20 +20,17 @@ overflow_add-end c = omega (arith, commands_length (length c.args.words.now), c.
 pub slice_bounds-number-end : goal.slice_bounds-number-end
 slice_bounds-number-end c = omega (arith, commands_length (length c.args.words.now), c.requires)
 
-pub number-x-requires : goal.number-x-requires
-number-x-requires c = let n = length c.args.words.now in let k = c.loop-k.k in (c.requires.0, le_refl 8, part_size (commands n) c.args.digits.now (16 * k) k (omega (arith, commands_length n)) c.loop-k.invariant.left (16 * k + 16) (command_end n k (omega (arith, commands_length n))) ∙ ap (λ w. 2 * w) (commands_at n k (omega (arith, commands_length n))))
+pub number-requires : goal.number-requires
+number-requires c = let n = length c.args.words.now in let k = c.loop-k.k in (c.requires.0, le_refl 8, part_size (commands n) c.args.digits.now (16 * k) k (omega (arith, commands_length n)) c.loop-k.invariant.left (16 * k + 16) (command_end n k (omega (arith, commands_length n))) ∙ ap (λ w. 2 * w) (commands_at n k (omega (arith, commands_length n))))
 
-pub shape_of-words-then-not-x : goal.shape_of-words-then-not-x
-shape_of-words-then-not-x c = omega (arith, commands_length (length c.args.words.now))
-
-pub returns-then-not-x : goal.returns-then-not-x
-returns-then-not-x c = let n = length c.args.words.now in let k = c.loop-k.k in gathering_stop (commands n) _ _ (16 * k) k c.loop-k.invariant (omega (arith, commands_length n)) (16 * k + 16) (command_end n k (omega (arith, commands_length n))) c.number-x.result c.number-x.ensures (not-true _ c.if-not-x.true) _
+pub returns-in_default : goal.returns-in_default
+returns-in_default c = let n = length c.args.words.now in let k = c.loop-k.k in gathering_stop (commands n) _ _ (16 * k) k c.loop-k.invariant (omega (arith, commands_length n)) (16 * k + 16) (command_end n k (omega (arith, commands_length n))) c.number.result c.number.ensures c.in_default.is _
 
 pub loop-k-smaller : goal.loop-k-smaller
 loop-k-smaller c = omega (arith, commands_length (length c.args.words.now))
 
 pub loop-k-preserved : goal.loop-k-preserved
-loop-k-preserved c = let n = length c.args.words.now in let k = c.loop-k.k in gathering_turn (commands n) _ _ (16 * k) k c.loop-k.invariant (omega (arith, commands_length n)) (16 * k + 16) (command_end n k (omega (arith, commands_length n))) c.number-x.result c.number-x.ensures (not-false _ c.if-not-x.false) (16 * (k + 1)) (omega arith)
+loop-k-preserved c = let n = length c.args.words.now in let k = c.loop-k.k in gathering_turn (commands n) _ _ (16 * k) k c.loop-k.invariant (omega (arith, commands_length n)) (16 * k + 16) (command_end n k (omega (arith, commands_length n))) c.number.result c.number.ensures c.in-Some.is (16 * (k + 1)) (omega arith)
 
 pub shape_of-words : goal.shape_of-words
 shape_of-words c = omega (arith, commands_length (length c.args.words.now))

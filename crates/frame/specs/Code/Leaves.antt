@@ -1,13 +1,11 @@
 -- What the functions inside `read_into`, `read_bare` and `write_from` give.
-use Rattle.std.specs.Prelude.{ℕ, zero, suc, ◌-◌, ◌*◌, ◌^◌, ◌≤◌, ◌<◌, Bool, true, false, cond, ◌&&◌, List, [], ◌∷◌, ◌≡◌, leb, eqb, length, get_or, take, drop}
-use Rattle.frame.specs.declared.Spelled.{Spelled}
+use Rattle.std.specs.Prelude.{ℕ, zero, suc, ◌-◌, ◌*◌, ◌^◌, ◌≤◌, ◌<◌, Bool, true, cond, ◌&&◌, List, [], ◌∷◌, ◌≡◌, leb, eqb, length, get_or, take, drop, Option, None, Some}
 use Rattle.frame.specs.declared.Heading.{Heading}
-use Rattle.frame.specs.declared.Reading.{Reading}
 use Rattle.roster.specs.Mask.{bit}
 use Rattle.frame.specs.Hex.{digit, is_digit, value_of, all_digits, number, numbers, total}
 use Rattle.frame.specs.Layout.{widths, with_values, count, line_length}
 use Rattle.frame.specs.Kinds.{uses, is_kind, zero_unless}
-use Rattle.frame.specs.Format.{frame_of, line_feed, blank, nothing, reading_of, head_with, head_of}
+use Rattle.frame.specs.Format.{Reading, frame_of, line_feed, nothing, reading_of, head_of}
 
 -- the digit that a character is; for what is none a full stop, which is more than any digit
 abbrev pub full_stop : ℕ
@@ -28,9 +26,9 @@ values = tabled 256 digit_in
 unfoldable pub characters : List ℕ
 characters = tabled 16 digit
 
--- a number read from digits; 0 where not all are digits
-unfoldable pub number_in : List ℕ → Spelled
-number_in l = record { good = all_digits l; value = cond (all_digits l) (number l) 0 }
+-- a number read from digits, if all are digits
+unfoldable pub number_in : List ℕ → Option ℕ
+number_in l = cond (all_digits l) (Some (number l)) None
 
 -- numbers read from digits into a slice: all of them, if all are digits
 pub record NumbersIn (ws l : List ℕ) (good : Bool) (xs : List ℕ) : Type 0 where
@@ -42,15 +40,12 @@ unfoldable pub proper_header : ℕ → List ℕ → Bool
 proper_header limit h =
     is_kind (get_or h 0 0) && ((leb (get_or h 6 0) limit && leb (get_or h 7 0) limit) && zero_unless (get_or uses (get_or h 0 0) []) h)
 
--- a header's values that fit their widths, the heading that they are, and that of no frame
+-- a header's values that fit their widths, and the heading that they are
 abbrev pub Fitting : List ℕ → Type 0
 Fitting h = (k : ℕ) → k < 8 → get_or h k 0 < 256 ^ get_or widths k 0
 
 abbrev pub heading_of : List ℕ → Heading
 heading_of h = head_of (with_values h [])
-
-abbrev pub no_heading : Heading
-no_heading = head_with false blank
 
 -- a line that is long enough, whose header's digits spell proper values
 pub record Headed (limit : ℕ) (l : List ℕ) : Type 0 where
@@ -69,13 +64,9 @@ pub record Found (limit : ℕ) (l : List ℕ) (kinds : ℕ) (h : Heading) : Type
   pub heading : h ≡ heading_of (numbers widths l)
   pub taken : bit kinds (get_or (numbers widths l) 0 0) ≡ true
 
-pub record Missing (limit : ℕ) (l : List ℕ) (kinds : ℕ) (h : Heading) : Type 0 where
-  pub heading : h ≡ no_heading
-  pub none : nothing ≡ reading_of limit l kinds
-
-pub record HeadIn (limit : ℕ) (l : List ℕ) (kinds : ℕ) (h : Heading) : Type 0 where
-  pub found : h.found ≡ true → Found limit l kinds h
-  pub missing : h.found ≡ false → Missing limit l kinds h
+abbrev pub HeadIn : ℕ → List ℕ → ℕ → Option Heading → Type 0
+HeadIn limit l kinds (Some h) = Found limit l kinds h
+HeadIn limit l kinds None = nothing ≡ reading_of limit l kinds
 
 -- what is left to test of a line whose header was read: the length, the line feed, and the digits of the commands
 unfoldable pub body_good : List ℕ → Bool

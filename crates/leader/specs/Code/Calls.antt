@@ -3,7 +3,7 @@ use Rattle.std.specs.Prelude.{◌≡◌, not, List, ◌∷◌, ℕ}
 use Rattle.roster.specs.declared.Roster.{Roster}
 use Rattle.refusal.specs.declared.Refusal.TheVariants.{Config, Form}
 use Rattle.refusal.specs.Rules.{Rule, ◌gives◌}
-use Rattle.frame.specs.declared.Reading.{Reading}
+use Rattle.frame.specs.Format.{Reading}
 use Rattle.site.specs.Reply.{Reply, buffer}
 use Rattle.leader.specs.declared.State.{State}
 use Rattle.leader.specs.declared.Outcome.{Outcome}

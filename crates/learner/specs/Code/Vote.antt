@@ -7,7 +7,7 @@ use Rattle.history.specs.Words.{limit}
 use Rattle.table.specs.Table.{sites, row, row_of}
 use Rattle.refusal.specs.declared.Refusal.TheVariants.{Config, Form}
 use Rattle.refusal.specs.Rules.{Rule, ◌gives◌, judged}
-use Rattle.frame.specs.declared.Reading.{Reading}
+use Rattle.frame.specs.Format.{Reading}
 use Rattle.content.specs.Content.{contradicts}
 use Rattle.learner.specs.declared.State.{State}
 use Rattle.learner.specs.declared.Outcome.{Outcome}

@@ -4,7 +4,7 @@ use Rattle.roster.specs.declared.Roster.{Roster}
 use Rattle.refusal.specs.declared.Refusal.TheVariants.{Form}
 use Rattle.refusal.specs.Rules.{Rule, ◌gives◌}
 use Rattle.frame.specs.declared.Heading.{Heading}
-use Rattle.frame.specs.declared.Reading.{Reading}
+use Rattle.frame.specs.Format.{Reading}
 use Rattle.frame.specs.Layout.{frame_capacity}
 use Rattle.frame.specs.Format.{reading_with}
 use Rattle.site.specs.declared.ViewRecord.{ViewRecord}
