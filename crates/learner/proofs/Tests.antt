@@ -9,6 +9,7 @@ use native.Mathlib.Decide.{ℕ_discrete}
 use borrow.Author.Tests.{leb-false, eq-eqb, ne_eqb}
 use lib.Dec.{leb}
 use lib.ListN.{length, length-take}
+use Rattle.std.specs.Prelude.{Option, Some}
 use Rattle.basics.specs.Bools.{true_or_false}
 use Rattle.roster.specs.declared.Roster.{Roster}
 use Rattle.roster.specs.Roster.{quorum}
@@ -63,11 +64,12 @@ extends_is h g b p e = sym (extends_within_lem 64 h g p) ∙ sym e
 
 -- ---- a vote for h that passed the checks up to its merge
 
-module _ {t : Table} (z : Sized t) (site : ℕ) (h : List ℕ) (p : Passed t.words t.counts site h) where
-  -- it extends the sender's entry exactly if it is not shorter
-  pub newer_is : (b : Bool) → leb (length (row_of t site)) (length h) ≡ b → extends h (row_of t site) ≡ b
-  newer_is = content.newer_is (row_of t site) h p.agrees
+-- it extends the sender's entry exactly if it is not shorter
+pub newer_is : {t : Table} (site : ℕ) (h : List ℕ) → Passed t.words t.counts site h → (b : Bool) → leb (length (row_of t site)) (length h) ≡ b
+    → extends h (row_of t site) ≡ b
+newer_is {t} site h p = content.newer_is (row_of t site) h p.agrees
 
+module _ {t : Table} (z : Sized t) (site : ℕ) (h : List ℕ) (p : Passed t.words t.counts site h) where
   -- once the vote is in, the sender's entry extends it
   sender_stands : extends (row_of (with_vote t site h) site) h ≡ true
   sender_stands = extends_complete (vote_enters z site h p.inside p.short p.agrees)
@@ -127,8 +129,8 @@ unfolding judged
 judged_on refuse accepted [] b passed = refl
 judged_on refuse accepted (test gives r ∷ a) b (pass f n) = rw f (judged_on refuse accepted a b n)
 
-module _ (r : Roster) (s : State) (z : Sized s.entries) (line : List ℕ) (head : Heading) (w : List ℕ) (x : Answer) (b : Bool)
-    (f : reading_with head w ≡ reading_of limit line taken) (a : x ≡ answer (checks r s (reading_with head w))) (g : b ≡ is_refused x) where
+module _ (r : Roster) (s : State) (z : Sized s.entries) (line : List ℕ) (read : Option Heading) (w : List ℕ) (x : Answer) (b : Bool)
+    (f : reading_with read w ≡ reading_of limit line taken) (a : x ≡ answer (checks r s (reading_with read w))) (g : b ≡ is_refused x) where
   merge_checks : List Rule
   merge_checks = merge_rules (merge_of r (with_vote s.entries (vote line).sender (arrived (vote line))) s (arrived (vote line)))
 
@@ -139,23 +141,29 @@ module _ (r : Roster) (s : State) (z : Sized s.entries) (line : List ℕ) (head 
       (stops (checks r s (reading_of limit line taken)) merge_checks (subst (λ (d : Reading). x ≡ answer (checks r s d)) f a) g c) (sym g ∙ c)
       (λ (y : Answer) (o : Outcome). record { answer = y; supporters = 0; state = s } ≡ o) (λ (q : Refusal). refl)
 
-  none : b ≡ false → NoneHolds (checks r s (reading_with head w))
-  none c = answer_none (checks r s (reading_with head w)) x a (sym g ∙ c)
+  none : b ≡ false → NoneHolds (checks r s (reading_with read w))
+  none c = answer_none (checks r s (reading_with read w)) x a (sym g ∙ c)
 
-  pub passes : b ≡ false → Passed s.entries.words s.entries.counts head.sender (arrived (frame_with head w))
-  unfolding test_of
-  passes c =
-      let n = none c in
-      let few = (valid_figures r (config_sound z (no_test n Config)).roster).max_sites in
-      record {
-        inside = omega (arith, leb-false r.n head.sender (no_test n Sender), few);
-        short = rw length-take (omega (arith, ap (λ (o : Reading). o.frame.n) f, read_n limit line taken));
-        agrees = no_test n Contradiction;
-      }
+  module _ {head : Heading} (h : read ≡ Some head) (c : b ≡ false) where
+    read_is : reading_with (Some head) w ≡ reading_of limit line taken
+    read_is = ap (λ (o : Option Heading). reading_with o w) (sym h) ∙ f
 
-  pub steps_concluded : b ≡ false → concluded r s head.sender (arrived (frame_with head w)) ≡ step r s line
-  unfolding step malformed merge_checks
-  steps_concluded c =
-      subst (λ (d : Reading). concluded r s d.frame.sender (arrived d.frame) ≡ step r s line) (sym f)
-      (sym (judged_on (refuse s) (accepted r s (vote line).sender (arrived (vote line))) (checks r s (reading_of limit line taken)) merge_checks
-      (subst (λ (d : Reading). NoneHolds (checks r s d)) f (none c))))
+    some_none : NoneHolds (checks r s (reading_with (Some head) w))
+    some_none = subst (λ (o : Option Heading). NoneHolds (checks r s (reading_with o w))) h (none c)
+
+    pub passes : Passed s.entries.words s.entries.counts head.sender (arrived (frame_with head w))
+    unfolding test_of
+    passes =
+        let few = (valid_figures r (config_sound z (no_test some_none Config)).roster).max_sites in
+        record {
+          inside = omega (arith, leb-false r.n head.sender (no_test some_none Sender), few);
+          short = rw length-take (omega (arith, ap (λ (o : Reading). o.frame.n) read_is, read_n limit line taken));
+          agrees = no_test some_none Contradiction;
+        }
+
+    pub steps_concluded : concluded r s head.sender (arrived (frame_with head w)) ≡ step r s line
+    unfolding step malformed merge_checks
+    steps_concluded =
+        subst (λ (d : Reading). concluded r s d.frame.sender (arrived d.frame) ≡ step r s line) (sym read_is)
+        (sym (judged_on (refuse s) (accepted r s (vote line).sender (arrived (vote line))) (checks r s (reading_of limit line taken)) merge_checks
+        (subst (λ (d : Reading). NoneHolds (checks r s d)) read_is some_none)))

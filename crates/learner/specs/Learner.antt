@@ -1,5 +1,5 @@
 -- The learner, as document 01, "Learner", words it: its refusals in their order, and what an accepted vote does.
-use Rattle.std.specs.Prelude.{Bool, false, not, cond, ◌&&◌, ◌||◌, List, [], ◌∷◌, ◌++◌, ℕ, leb}
+use Rattle.std.specs.Prelude.{Bool, false, not, cond, ◌&&◌, ◌||◌, List, [], ◌∷◌, ◌++◌, ℕ, leb, Result, Ok, Err}
 use Rattle.roster.specs.declared.Roster.{Roster}
 use Rattle.roster.specs.Roster.{valid_roster, quorum}
 use Rattle.roster.specs.Counts.{zero_ballot}
@@ -92,6 +92,11 @@ accepted r s site h =
 -- "Each returns its number only (a learner's supporters: 0), sends nothing and keeps state"
 abbrev pub refuse : State → Refusal → Outcome
 refuse s e = record { answer = Refused e; supporters = 0; state = s }
+
+-- what a call in place gives: the supporters or a refusal, and the state that it leaves
+abbrev pub outcome : Result ℕ Refusal → State → Outcome
+outcome (Ok k) s = record { answer = Accepted; supporters = k; state = s }
+outcome (Err e) s = record { answer = Refused e; supporters = 0; state = s }
 
 -- ---- the refusals of a vote
 

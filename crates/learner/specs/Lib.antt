@@ -1,7 +1,6 @@
 -- What the contracts of `learner` cite, and the laws of it.
 pub mod Learner
 pub mod NeedsLaws
-pub mod Parts
 pub mod StepLaws
 pub mod VoteLaws
 pub mod Run

@@ -5,11 +5,10 @@ ghost use Rattle.std.specs.Prelude.{cond, [], ◌∷◌, ◌≡◌, ◌≤◌, l
 ghost use Rattle.roster.specs.Roster.{quorum};
 ghost use Rattle.roster.specs.Sites.{count_to};
 ghost use Rattle.history.specs.Words.{union_capacity, history_of};
-ghost use Rattle.table.specs.Table.{table_of};
+ghost use Rattle.table.specs.TableLaws.{Sized};
 ghost use Rattle.refusal.specs.Rules.{answer};
 ghost use Rattle.frame.specs.Format.{frame_with, reading_with};
 ghost use Rattle.learner.specs.Learner as spec;
-ghost use Rattle.learner.specs.Parts as parts;
 ghost use Rattle.learner.specs.Code.Vote as code;
 
 use frame::Heading;
@@ -35,27 +34,17 @@ pub struct Outcome {
     pub state: State,
 }
 
-// What a call in place answers: the answer to a line, and the number of supporters of the arrived history.
-#[derive(Clone, Copy)]
-pub struct Answered {
-    pub answer: Answer,
-    pub supporters: u8,
-}
+// The one kind that a learner takes, P2B, as a set of kinds.
+const TAKEN: u16 = 1 << frame::P2B;
 
-// Whether the roster, the entries or what is learned, the first `count` words of `past`, are such that no step takes them.
-fn config<'a>(r: Roster, words: &'a [u64], counts: &'a [u8], past: &[u64], count: u8) -> bool
-    ensures { result ≡ spec.config r (parts.state_of words.now counts.now past.now count) }
+// Whether the roster or the state is one that no step takes.
+#[tactic(auto, unfolding(crate::specs::Learner::config))]
+fn unfit(r: Roster, s: &State) -> bool
+    ensures config { result ≡ spec.config r s.now }
+    ensures sized { Sized s.now.entries }
 {
-    let figures = r.valid();
-    if !figures {
-        return true;
-    }
-    let rows = table::rows_valid(words::LIMIT, words, counts, r.n);
-    if !rows {
-        return true;
-    }
-    let kept = history::lendable(words::LIMIT, past, count);
-    !kept
+    let entries = s.entries.is_valid(words::LIMIT, r.n);
+    !(r.valid() && (entries && s.learned.is_valid(words::LIMIT)))
 }
 
 // The answer to the heading of a vote.
@@ -71,80 +60,36 @@ fn vote_heading(r: Roster, head: Heading) -> Answer
         given(
             stale,
             Refusal::Stale,
-            given(unproven, Refusal::Proof, Answer::Accepted),
+            given(unproven, Refusal::Proof, Ok(())),
         ),
     )
 }
 
 // The answer to a vote for h, up to its merge: the heading, then the commands, then the sender's entry.
-fn on_vote<'a>(r: Roster, entry: &'a [u64], head: Heading, h: &'a [u64]) -> Answer
+fn check_vote(r: Roster, entry: &[u64], head: Heading, h: &[u64]) -> Answer
     requires { (length entry.now ≤ union_capacity) × (length h.now ≤ union_capacity) }
     ensures { result ≡ answer (spec.vote_rules r entry.now (frame_with head []) h.now) }
 {
-    let heading = vote_heading(r, head);
-    let stops = heading.refuses();
-    if stops {
-        return heading;
-    }
-    let commands = content::ordered(h);
-    let ends = commands.refuses();
-    if ends {
-        return commands;
-    }
+    vote_heading(r, head)?;
+    content::ordered(h)?;
     let clash = content::contradicts(entry, h);
-    given(clash, Refusal::Contradiction, Answer::Accepted)
-}
-
-// The answer to a line of which this was read, up to the merge. What is learned is the first `count` words of `past`.
-fn check<'a>(
-    r: Roster,
-    words: &'a [u64],
-    counts: &'a [u8],
-    past: &'a [u64],
-    count: u8,
-    head: Heading,
-    all: &'a [u64; frame::CAPACITY],
-) -> Answer
-    ensures { result ≡ answer (code.checks r (parts.state_of words.now counts.now past.now count) (reading_with head all.now)) }
-{
-    let unfit = config(r, words, counts, past, count);
-    let lost = !head.found;
-    let line = given(
-        unfit,
-        Refusal::Config,
-        given(lost, Refusal::Form, Answer::Accepted),
-    );
-    let stops = line.refuses();
-    if stops {
-        return line;
-    }
-    let entry = table::row(words, counts, head.sender as usize);
-    let carried: &[u64] = all;
-    let h = history::first(carried, head.n as usize);
-    on_vote(r, entry, head, h)
+    given(clash, Refusal::Contradiction, Ok(()))
 }
 
 // Whether site i stands behind h once `site` has voted for it.
-fn stands<'a>(words: &'a [u64], counts: &'a [u8], site: u8, h: &[u64], i: u8) -> bool
-    ensures { result ≡ code.stands words.now counts.now site h.now i }
+fn stands(entries: &Table, site: u8, h: &[u64], i: u8) -> bool
+    ensures { result ≡ code.stands entries.now.words entries.now.counts site h.now i }
 {
-    let voter = i == site;
-    if voter {
-        return true;
-    }
-    history::extends(table::row(words, counts, i as usize), h)
+    i == site || history::extends(entries.row(i as usize), h)
 }
 
 // How many of the first n sites stand behind h once `site` has voted for it.
-fn supporters<'a>(words: &'a [u64], counts: &'a [u8], n: u8, site: u8, h: &[u64]) -> u8
-    ensures { result ≡ count_to n (code.stands words.now counts.now site h.now) }
+fn supporters(entries: &Table, n: u8, site: u8, h: &[u64]) -> u8
+    ensures { result ≡ count_to n (code.stands entries.now.words entries.now.counts site h.now) }
 {
     let mut count: u8 = 0;
-    let mut next: u8 = 0;
-    while next < n {
-        let behind = stands(words, counts, site, h, next);
-        next += 1;
-        if behind {
+    for i in 0..n {
+        if stands(entries, site, h, i) {
             count += 1;
         }
     }
@@ -152,127 +97,79 @@ fn supporters<'a>(words: &'a [u64], counts: &'a [u8], n: u8, site: u8, h: &[u64]
 }
 
 // The merge of what is learned and the claims: of h, if its k supporters are N-f or more.
-fn merge_claims(r: Roster, k: u8, learned: &[u64; words::CAPACITY], count: u8, h: &[u64]) -> Merged
-    ensures { result ≡ spec.merging (history_of learned.now count) (cond (leb (quorum r) k) (h.now ∷ []) []) }
+fn merge_claims(r: Roster, k: u8, learned: &History, h: &[u64]) -> Merged
+    ensures { result ≡ spec.merging learned.now (cond (leb (quorum r) k) (h.now ∷ []) []) }
 {
-    let enough = r.quorum() <= k as u32;
-    if enough {
-        let present = history::first(learned, count as usize);
-        return merge::merge(words::LIMIT, present, h);
+    if r.quorum() <= k as u32 {
+        return merge::merge(words::LIMIT, learned.commands(), h);
     }
     Merged {
         split: false,
         full: false,
-        history: History {
-            count,
-            words: *learned,
-        },
+        history: *learned,
     }
 }
 
 // Stores h as the entry of a site, if it extends the one that is there: of two histories of which one extends the other, that is the longer.
-fn store(words: &mut [u64; 512], counts: &mut [u8; 16], site: u8, h: &[u64])
-    requires { code.Passed words.old counts.old site h.now }
-    ensures { table_of words.new counts.new ≡ spec.with_vote (table_of words.old counts.old) site h.now }
+fn store(entries: &mut Table, site: u8, h: &[u64])
+    requires { code.Passed entries.old.words entries.old.counts site h.now }
+    ensures { entries.new ≡ spec.with_vote entries.old site h.now }
 {
-    let rows: &[u64] = words;
-    let lengths: &[u8] = counts;
-    let entry = table::row(rows, lengths, site as usize);
-    let stored = entry.len() <= h.len();
-    if stored {
-        table::store(words, counts, site as usize, h);
+    if entries.row(site as usize).len() <= h.len() {
+        entries.store(site as usize, h);
     }
 }
 
-// Takes a vote that passed the checks up to its merge, its history being the first words of `all`: SPLIT and FULL, and then the effect.
-fn conclude(
-    r: Roster,
-    words: &mut [u64; 512],
-    counts: &mut [u8; 16],
-    learned: &mut [u64; words::CAPACITY],
-    count: &mut u8,
-    head: Heading,
-    all: &[u64; frame::CAPACITY],
-) -> Answered
-    requires { code.Passed words.old counts.old head.sender (spec.arrived (frame_with head all.now)) }
-    ensures { parts.outcome_of result (parts.state_of words.new counts.new learned.new count.new) ≡ code.concluded r (parts.state_of words.old counts.old learned.old count.old) head.sender (spec.arrived (frame_with head all.now)) }
+// Takes a vote of a site for h that passed the checks up to its merge: SPLIT and FULL, and then the effect. Answers the supporters.
+fn conclude(r: Roster, s: &mut State, site: u8, h: &[u64]) -> Result<u8, Refusal>
+    requires passed { code.Passed s.old.entries.words s.old.entries.counts site h.now }
+    requires sized { Sized s.old.entries }
+    ensures { spec.outcome result s.new ≡ code.concluded r s.old site h.now }
 {
-    let carried: &[u64] = all;
-    let h = history::first(carried, head.n as usize);
-    let k = supporters(words, counts, r.n, head.sender, h);
-    let m = merge_claims(r, k, learned, *count, h);
-    let answer = given(
+    let k = supporters(&s.entries, r.n, site, h);
+    let m = merge_claims(r, k, &s.learned, h);
+    given(
         m.split,
         Refusal::Split,
-        given(m.full, Refusal::Full, Answer::Accepted),
-    );
-    let stops = answer.refuses();
-    if stops {
-        return Answered {
-            answer,
-            supporters: 0,
-        };
-    }
-    let history = m.history;
-    let next = history.words;
-    *learned = next;
-    *count = history.count;
-    store(words, counts, head.sender, h);
-    Answered {
-        answer: Answer::Accepted,
-        supporters: k,
-    }
+        given(m.full, Refusal::Full, Ok(())),
+    )?;
+    s.learned = m.history;
+    store(&mut s.entries, site, h);
+    Ok(k)
 }
 
-// The kinds that a learner takes: P2B alone, which is bit 7.
-const TAKEN: u16 = 128;
-
-// One step in place, on the parts of a state: the entries' words and counts, and the words and count of what is learned. Any line is answered
-// in any state.
-pub fn step_in_place(
-    r: Roster,
-    words: &mut [u64; 512],
-    counts: &mut [u8; 16],
-    learned: &mut [u64; words::CAPACITY],
-    count: &mut u8,
-    line: &[u8],
-) -> Answered
-    ensures { parts.outcome_of result (parts.state_of words.new counts.new learned.new count.new) ≡ spec.step r (parts.state_of words.old counts.old learned.old count.old) line.now }
+// One step in place: the supporters of the arrived history, or why the line is refused; then the state stays. Any line is answered in any state.
+pub fn step_in_place(r: Roster, s: &mut State, line: &[u8]) -> Result<u8, Refusal>
+    ensures { spec.outcome result s.new ≡ spec.step r s.old line.now }
 {
     let mut carried = [0u64; frame::CAPACITY];
-    let head = frame::read_into(words::LIMIT, line, TAKEN, &mut carried);
-    let early = check(r, words, counts, learned, *count, head, &carried);
-    let stops = early.refuses();
-    if stops {
-        return Answered {
-            answer: early,
-            supporters: 0,
-        };
+    let read = frame::read_into(words::LIMIT, line, TAKEN, &mut carried);
+    if unfit(r, s) {
+        return Err(Refusal::Config);
     }
-    conclude(r, words, counts, learned, count, head, &carried)
+    let Some(head) = read else {
+        return Err(Refusal::Form);
+    };
+    let h = history::first(&carried, head.n as usize);
+    check_vote(r, s.entries.row(head.sender as usize), head, h)?;
+    conclude(r, s, head.sender, h)
 }
 
 // One step by value: the answer to a line, its supporters, and the state after it. Any line is answered in any state.
 pub fn step(r: Roster, s: State, line: &[u8]) -> Outcome
     ensures { result ≡ spec.step r s line.now }
 {
-    let entries = s.entries;
-    let past = s.learned;
-    let mut counts = entries.counts;
-    let mut words = entries.words;
-    let mut count = past.count;
-    let mut learned = past.words;
-    let o = step_in_place(r, &mut words, &mut counts, &mut learned, &mut count, line);
-    let answer = o.answer;
-    Outcome {
-        answer,
-        supporters: o.supporters,
-        state: State {
-            entries: Table { counts, words },
-            learned: History {
-                count,
-                words: learned,
-            },
+    let mut state = s;
+    match step_in_place(r, &mut state, line) {
+        Ok(supporters) => Outcome {
+            answer: Ok(()),
+            supporters,
+            state,
+        },
+        Err(refusal) => Outcome {
+            answer: Err(refusal),
+            supporters: 0,
+            state,
         },
     }
 }

@@ -1,6 +1,8 @@
 -- Laws of answers: what `given` makes of a rule and of the answer of those after it; rules in tiers, of which the first that refuses answers; and what
 -- an answer says of the judgement by the same rules.
-use Rattle.std.specs.Prelude.{◌≡◌, refl, Bool, true, false, cond, List, [], ◌∷◌, ◌++◌, ℕ}
+use Rattle.std.specs.Prelude.{◌≡◌, refl, Bool, true, false, cond, List, [], ◌∷◌, ◌++◌, ℕ, Result, Err}
+use Rattle.std.specs.Result.{IsErrAnd}
+use Rattle.std.proofs.lemmas.Result.{err_from_is_err_and}
 use Rattle.std.proofs.Common.{sym, ap, ◌∙◌, true≢false, arith}
 use Rattle.refusal.specs.declared.Refusal.{Refusal}
 use Rattle.refusal.specs.Refusal.{Answer}
@@ -15,6 +17,10 @@ accepted_not_refused x = let z : ◌≡◌ {A = ℕ} 0 1 = cc in omega arith
 pub refused_same : {d e : Refusal} → ◌≡◌ {A = Answer} (Refused d) (Refused e) → d ≡ e
 refused_same x = cc
 
+-- what the exit of a `?` returns: the refusal that the call gave
+pub passed_on : {T : Type 0} {e : Refusal} (r : Result T Refusal) → IsErrAnd r (λ y. y ≡ e) → r ≡ Err e
+passed_on r h = let p = err_from_is_err_and r h in p.1 ∙ ap Err p.2
+
 -- ---- the answer of rules, rule by rule
 
 pub no_rule : Accepted ≡ answer []
@@ -26,6 +32,16 @@ pub rule : (e : Refusal) (rules : List Rule) {x y : Answer} {t test : Bool} → 
     → x ≡ answer (test gives e ∷ rules)
 unfolding judged
 rule e rules p q f = p ∙ rw (q, f)
+
+-- the first rule's test holds: its refusal is the answer
+pub at_once : (e : Refusal) (rules : List Rule) {test : Bool} → test ≡ true → Refused e ≡ answer (test gives e ∷ rules)
+unfolding judged
+at_once e rules f = rw f
+
+-- it does not: the rules after it answer
+pub later : (e : Refusal) (rules : List Rule) {x : Answer} {test : Bool} → test ≡ false → x ≡ answer rules → x ≡ answer (test gives e ∷ rules)
+unfolding judged
+later e rules f g = rw f g
 
 -- ---- and in parts: x is the answer of the first rules, a, and t tells whether it refuses
 

@@ -5,6 +5,7 @@ ghost use Rattle.std.specs.Prelude.{◌≡◌};
 ghost use Rattle.roster.specs.Sites.{all_to};
 ghost use Rattle.table.specs.Table.{sites};
 ghost use Rattle.table.specs.Table as spec;
+ghost use Rattle.table.specs.TableLaws.{Sized};
 
 // One history a site: row i is words 32 * i to 32 * i + 31, of which the first counts[i] are the history. The words after them mean
 // nothing.
@@ -119,10 +120,11 @@ impl Table {
         store(&mut self.words, &mut self.counts, site, h);
     }
 
-    // Whether every row is one that lent state may hold, under a limit and for n sites.
+    // Whether every row is one that lent state may hold, under a limit and for n sites. A table's arrays have their sizes, whatever they hold.
     #[tactic(auto, unfolding(crate::specs::Table::valid_table))]
     pub fn is_valid(&self, limit: u8, n: u8) -> bool
-        ensures { result ≡ spec.valid_table limit n self.now }
+        ensures valid { result ≡ spec.valid_table limit n self.now }
+        ensures sized { Sized self.now }
     {
         rows_valid(limit, &self.words, &self.counts, n)
     }

@@ -3,10 +3,10 @@ use Rattle.std.proofs.lemmas.Bool.{le-leb, lt-leb}
 use Rattle.learner.specs.Learner.{merging, further}
 use Rattle.learner.proofs.merge_claims.Goals as goal
 
-pub returns-then-enough : goal.returns-then-enough
+pub returns-then-quorum-k : goal.returns-then-quorum-k
 unfolding merging further
-returns-then-enough c = rw (← c.quorum.ensures, le-leb _ _ c.if-enough.true, ← c.first-present.ensures) c.merge.ensures
+returns-then-quorum-k c = rw (← c.quorum.ensures, le-leb _ _ c.if-quorum-k.true, ← c.commands.ensures) c.merge.ensures
 
 pub returns : goal.returns
 unfolding merging further
-returns c = rw (← c.quorum.ensures, lt-leb _ _ c.if-enough.false)
+returns c = rw (← c.quorum.ensures, lt-leb _ _ c.if-quorum-k.false)
