@@ -53,7 +53,7 @@ pub struct Frame {
 }
 
 // A frame's fields but for its commands.
-#[derive(Clone, Copy, PartialEq, Eq)]
+#[derive(Clone, Copy, Default, PartialEq, Eq)]
 pub struct Heading {
     pub kind: u8,
     pub sender: u8,

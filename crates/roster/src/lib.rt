@@ -9,7 +9,7 @@ ghost use Rattle.roster.specs.Mask.{reaches, beyond, unproven, bit, with_site};
 
 // A count of views, from 0.
 #[repr(C)]
-#[derive(Clone, Copy, PartialEq, Eq, PartialOrd, Ord)]
+#[derive(Clone, Copy, Default, PartialEq, Eq, PartialOrd, Ord)]
 pub struct View(pub u32);
 
 impl View {
@@ -30,7 +30,7 @@ impl View {
 
 // A count of ballots, from 0.
 #[repr(C)]
-#[derive(Clone, Copy, PartialEq, Eq, PartialOrd, Ord)]
+#[derive(Clone, Copy, Default, PartialEq, Eq, PartialOrd, Ord)]
 pub struct Ballot(pub u32);
 
 impl Ballot {

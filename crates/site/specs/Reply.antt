@@ -1,5 +1,5 @@
 -- What a call of a role that sends does: its answer, the state after it, and at most one frame to send.
-use Rattle.std.specs.Prelude.{◌≡◌, Bool, cond, List, ℕ}
+use Rattle.std.specs.Prelude.{◌≡◌, Bool, cond, List, ℕ, Result, Ok, Err}
 use Rattle.refusal.specs.declared.Refusal.{Refusal}
 use Rattle.refusal.specs.Refusal.{Answer}
 use Rattle.refusal.specs.Refusal.{Accepted, Refused}
@@ -27,6 +27,17 @@ refuse s e = record { answer = Refused e; state = s; sending = silent }
 -- "An accepted frame answers 0 and at most one frame to send"
 abbrev pub accept : {S : Type 0} → S → Sending → Reply S
 accept s m = record { answer = Accepted; state = s; sending = m }
+
+-- what such a call gives its caller: its answer, how many bytes of the buffer are to be sent, and the state after it
+pub record Outcome (S : Type 0) : Type 0 where
+  pub answer : Answer
+  pub sent : ℕ
+  pub state : S
+
+-- what a call in place gives that answers how many bytes are to be sent, or a refusal, and leaves this state
+abbrev pub outcome : {S : Type 0} → Result ℕ Refusal → S → Outcome S
+outcome (Ok n) s = record { answer = Accepted; sent = n; state = s }
+outcome (Err e) s = record { answer = Refused e; sent = 0; state = s }
 
 -- "its line at the front of the output buffer; the bytes after it stay": the length of that line, 0 if there is none, and the buffer
 abbrev pub length_sent : Sending → List ℕ → ℕ

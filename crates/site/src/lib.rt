@@ -8,7 +8,7 @@ ghost use Rattle.site.specs.Reply as reply;
 ghost use Rattle.site.specs.Message as message;
 
 use frame::Heading;
-use roster::{Ballot, Roster, View};
+use roster::{Roster, View};
 
 // The view-change record, lent by the host.
 #[repr(C)]
@@ -52,39 +52,14 @@ pub fn seated(r: Roster, own: u8, room: usize) -> bool
     r.valid() & ((own < r.n) & (frame::LONGEST <= room))
 }
 
-// Writes the frame of these values, its lists cut to what there is room for, at the front of the buffer, if it is to be sent, and answers the length
-// of its line; 0 if not.
-pub fn send<'a>(
-    sent: bool,
-    kind: u8,
-    own: u8,
-    view: View,
-    ballot: Ballot,
-    proven_ballot: Ballot,
-    mask: u16,
-    g: &'a [u64],
-    h: &'a [u64],
-    out: &mut [u8],
-) -> usize
-    ensures { reply.Handed (reply.sends_if sent (message.message kind own view ballot proven_ballot mask (take capacity g.now) (take capacity h.now))) result out.old out.new }
+// Writes the frame of this heading and these two lists, the lists cut to what there is room for, at the front of the buffer, and answers the length
+// of its line. The heading's counts are not looked at: they are those of the lists.
+pub fn send(head: Heading, g: &[u64], h: &[u64], out: &mut [u8]) -> usize
+    ensures { reply.Handed (reply.sends (message.message head.kind head.sender head.view head.ballot head.proven_ballot head.mask (take capacity g.now) (take capacity h.now))) result out.old out.new }
 {
-    if !sent {
-        return 0;
-    }
     let one = words::first(g, words::CAPACITY);
     let two = words::first(h, words::CAPACITY);
     let n = one.len() as u8;
     let m = two.len() as u8;
-    let heading = Heading {
-        found: true,
-        kind,
-        sender: own,
-        view,
-        ballot,
-        proven_ballot,
-        mask,
-        n,
-        m,
-    };
-    frame::write_from(heading, one, two, out)
+    frame::write_from(Heading { n, m, ..head }, one, two, out)
 }
