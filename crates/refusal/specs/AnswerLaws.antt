@@ -81,6 +81,16 @@ judged_accepted refuse accepted [] x e f = refl
 judged_accepted refuse accepted (true gives r ∷ rules) x e f = absurd (true≢false (sym (ap is_refused e) ∙ f))
 judged_accepted refuse accepted (false gives r ∷ rules) x e f = judged_accepted refuse accepted rules x e f
 
+-- where the answer is one refusal, it is what refuses; and where it is that of an accepted frame, the accepted outcome is given
+pub judged_by_refused : {A : Type 0} (refuse : Refusal → A) (accepted : A) (rules : List Rule) {e : Refusal} → Refused e ≡ answer rules
+    → judged refuse accepted rules ≡ refuse e
+judged_by_refused refuse accepted rules {e} f =
+    judged_refused refuse accepted rules (Refused e) f refl (λ x o. x ≡ Refused e → o ≡ refuse e) (λ d h. ap refuse (refused_same h)) refl
+
+pub judged_by_accepted : {A : Type 0} (refuse : Refusal → A) (accepted : A) (rules : List Rule) → Accepted ≡ answer rules
+    → judged refuse accepted rules ≡ accepted
+judged_by_accepted refuse accepted rules f = judged_accepted refuse accepted rules Accepted f refl
+
 -- where it accepts, no rule holds
 pub answer_none : (rules : List Rule) (x : Answer) → x ≡ answer rules → is_refused x ≡ false → NoneHolds rules
 unfolding judged

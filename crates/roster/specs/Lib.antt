@@ -5,4 +5,5 @@ pub mod Mask
 pub mod MaskLaws
 pub mod Roster
 pub mod Counts
+pub mod CountsLaws
 pub mod RosterLaws

@@ -13,8 +13,7 @@ use Rattle.frame.specs.Format.{line_of, reading_of, malformed}
 use Rattle.site.specs.declared.ViewRecord.{ViewRecord}
 use Rattle.site.specs.Site.{seated, valid_record}
 use Rattle.site.specs.Message.{message}
-use Rattle.site.specs.Reply.{silent, sends, Reply, refuse, accept, length_sent, buffer}
-use Rattle.viewchange.specs.declared.Outcome.{Outcome}
+use Rattle.site.specs.Reply.{silent, sends, Reply, Outcome, refuse, accept, length_sent, buffer}
 
 -- ---- the frames taken and sent
 
@@ -158,11 +157,11 @@ abbrev pub own_suspicion : ℕ → View → List ℕ
 own_suspicion own view = line_of (notice suspicion_kind own view 0)
 
 -- what it returns: the answer, how many bytes of the buffer are to be sent, and the record
-abbrev pub outcome : Reply ViewRecord → List ℕ → Outcome
-outcome o out = record { answer = o.answer; sent = length_sent o.sending out; views = o.state }
+abbrev pub outcome : Reply ViewRecord → List ℕ → Outcome ViewRecord
+outcome o out = record { answer = o.answer; sent = length_sent o.sending out; state = o.state }
 
 -- of a call with this buffer lent to it: what it returns, and the buffer that it leaves
-abbrev pub returned : Roster → ℕ → ViewRecord → List ℕ → List ℕ → Outcome
+abbrev pub returned : Roster → ℕ → ViewRecord → List ℕ → List ℕ → Outcome ViewRecord
 returned r own v line out = outcome (step r own (length out) v line) out
 
 abbrev pub output : Roster → ℕ → ViewRecord → List ℕ → List ℕ → List ℕ

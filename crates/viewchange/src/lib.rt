@@ -3,40 +3,26 @@
 
 ghost use Rattle.std.specs.Prelude.{true, false, ◌≡◌, eqb};
 ghost use Rattle.refusal.specs.Rules.{answer};
-ghost use Rattle.site.specs.Reply.{Handed, sends};
+ghost use Rattle.site.specs.Reply.{Handed, outcome, sends};
 ghost use Rattle.viewchange.specs.ViewChange as spec;
 ghost use Rattle.viewchange.specs.Code.Parts as parts;
 
 use frame::Heading;
 use refusal::{Answer, Refusal, given};
-use roster::{Ballot, Roster, View};
+use roster::{Roster, View};
 use site::ViewRecord;
 
-// The answer to a line, how many bytes of the buffer are to be sent, and the record after it.
-#[derive(Clone, Copy)]
-pub struct Outcome {
-    pub answer: Answer,
-    pub sent: usize,
-    pub views: ViewRecord,
-}
-
-// The kinds of frames taken and sent.
-const SUSPICION: u8 = 8;
-
-const CHANGE: u8 = 9;
-
-const LEADER: u8 = 10;
-
-// SUSPICION and VIEWCHANGE, which are bits 8 and 9.
-const TAKEN: u16 = 768;
+// The kinds of frames taken, as a set of kinds.
+const TAKEN: u16 = 1 << frame::SUSPICION | 1 << frame::VIEWCHANGE;
 
 // ---- the checks
 
 // Whether the roster, the own number, the room or the record is one that no step takes.
-fn config(r: Roster, own: u8, room: usize, v: ViewRecord) -> bool
+#[tactic(auto, unfolding(crate::specs::ViewChange::config))]
+fn unfit(r: Roster, own: u8, room: usize, v: ViewRecord) -> bool
     ensures { result ≡ spec.config r own room v }
 {
-    !(site::seated(r, own, room) & v.is_valid(r.n))
+    !(site::seated(r, own, room) && v.is_valid(r.n))
 }
 
 // Whether the sender is none of the sites.
@@ -47,33 +33,27 @@ fn unknown(r: Roster, site: u8) -> bool
 }
 
 // Whether a site's SUSPICION sets a target: f+1 suspicions, and no target yet.
+#[tactic(auto, unfolding(crate::specs::ViewChange::sets, crate::specs::ViewChange::suspected))]
 fn sets(r: Roster, v: ViewRecord, site: u8) -> bool
     ensures { result ≡ spec.sets r v site }
 {
     let suspicions = roster::with_site(v.suspicions, site);
-    let target = v.target;
-    roster::reaches(suspicions, r.weak_certificate()) & target.is_zero()
+    roster::reaches(suspicions, r.weak_certificate()) && v.target.is_zero()
 }
 
 // Whether a site's SUSPICION sets a target in the last view.
 fn full(r: Roster, v: ViewRecord, site: u8) -> bool
     ensures { result ≡ spec.full r v site }
 {
-    let view = v.view;
-    let last = view.is_last();
-    if !last {
-        return false;
-    }
-    sets(r, v, site)
+    v.view.is_last() && sets(r, v, site)
 }
 
 // The answer to a SUSPICION of a view from a site.
 fn on_suspicion(r: Roster, v: ViewRecord, site: u8, view: View) -> Answer
     ensures { result ≡ answer (spec.suspicion_rules r v site view) }
 {
-    let present = v.view;
     let nobody = unknown(r, site);
-    let stale = !view.equals(present);
+    let stale = view != v.view;
     let passes = full(r, v, site);
     given(
         nobody,
@@ -81,7 +61,7 @@ fn on_suspicion(r: Roster, v: ViewRecord, site: u8, view: View) -> Answer
         given(
             stale,
             Refusal::Stale,
-            given(passes, Refusal::Full, Answer::Accepted),
+            given(passes, Refusal::Full, Ok(())),
         ),
     )
 }
@@ -90,10 +70,8 @@ fn on_suspicion(r: Roster, v: ViewRecord, site: u8, view: View) -> Answer
 fn on_change(r: Roster, v: ViewRecord, site: u8, view: View, mask: u16) -> Answer
     ensures { result ≡ answer (spec.change_rules r v site view mask) }
 {
-    let present = v.view;
-    let target = v.target;
     let nobody = unknown(r, site);
-    let stale = !view.above(present) | target.above(view);
+    let stale = !(view > v.view) | (v.target > view);
     let lacks = roster::unproven(mask, r.n, r.weak_certificate());
     given(
         nobody,
@@ -101,25 +79,19 @@ fn on_change(r: Roster, v: ViewRecord, site: u8, view: View, mask: u16) -> Answe
         given(
             stale,
             Refusal::Stale,
-            given(lacks, Refusal::Proof, Answer::Accepted),
+            given(lacks, Refusal::Proof, Ok(())),
         ),
     )
 }
 
-// The answer to a line after CONFIG, by the heading that was read of it.
+// The answer to a frame, by its kind.
 fn check(r: Roster, v: ViewRecord, head: Heading) -> Answer
-    ensures { result ≡ answer (parts.read_rules r v (parts.read head)) }
+    ensures { result ≡ answer (spec.frame_rules (spec.kind_of head.kind) r v (parts.bare head)) }
 {
-    let found = head.found;
-    if !found {
-        return Answer::Refused(Refusal::Form);
+    if head.kind == frame::SUSPICION {
+        return on_suspicion(r, v, head.sender, head.view);
     }
-    let view = head.view;
-    let suspicion = head.kind == SUSPICION;
-    if suspicion {
-        return on_suspicion(r, v, head.sender, view);
-    }
-    on_change(r, v, head.sender, view, head.mask)
+    on_change(r, v, head.sender, head.view, head.mask)
 }
 
 // ---- the effects
@@ -128,171 +100,105 @@ fn check(r: Roster, v: ViewRecord, head: Heading) -> Answer
 fn notify(kind: u8, own: u8, view: View, mask: u16, out: &mut [u8]) -> usize
     ensures { Handed (sends (spec.notice kind own view mask)) result out.old out.new }
 {
-    let none: [u64; 0] = [];
-    site::send(
-        true,
+    let head = Heading {
         kind,
-        own,
+        sender: own,
         view,
-        Ballot(0),
-        Ballot(0),
         mask,
-        &none,
-        &none,
-        out,
-    )
+        ..Heading::default()
+    };
+    site::send(head, &[], &[], out)
 }
 
 // Adds a site's suspicion. If that sets a target, it is the next view, and a VIEWCHANGE to it goes out.
-fn suspect(r: Roster, own: u8, v: ViewRecord, site: u8, out: &mut [u8]) -> Outcome
-    requires { spec.full r v site ≡ false }
-    ensures { parts.Done (spec.suspicion r own v site) out.old result out.new }
+fn suspect(r: Roster, own: u8, v: &mut ViewRecord, site: u8, out: &mut [u8]) -> usize
+    requires { spec.full r v.old site ≡ false }
+    ensures { parts.Done (spec.suspicion r own v.old site) out.old result v.new out.new }
 {
-    let view = v.view;
-    let suspicions = roster::with_site(v.suspicions, site);
-    let targets = sets(r, v, site);
+    let targets = sets(r, *v, site);
+    v.suspicions = roster::with_site(v.suspicions, site);
     if !targets {
-        let target = v.target;
-        let noted = ViewRecord {
-            view,
-            suspicions,
-            target,
-            changes: v.changes,
-        };
-        return Outcome {
-            answer: Answer::Accepted,
-            sent: 0,
-            views: noted,
-        };
+        return 0;
     }
-    let next = View(view.0 + 1);
-    let sent = notify(CHANGE, own, next, suspicions, out);
-    let targeted = ViewRecord {
-        view,
-        suspicions,
-        target: next,
-        changes: roster::with_site(0, own),
-    };
-    Outcome {
-        answer: Answer::Accepted,
-        sent,
-        views: targeted,
-    }
+    v.target = View(v.view.0 + 1);
+    v.changes = roster::with_site(0, own);
+    notify(frame::VIEWCHANGE, own, v.target, v.suspicions, out)
 }
 
 // Takes a new target: its mask starts with the sender and the own site, and a VIEWCHANGE with the frame's mask goes out.
-fn restart(own: u8, v: ViewRecord, site: u8, view: View, mask: u16, out: &mut [u8]) -> Outcome
-    ensures { parts.Done (spec.restart own v site view mask) out.old result out.new }
+fn restart(own: u8, v: &mut ViewRecord, site: u8, view: View, mask: u16, out: &mut [u8]) -> usize
+    ensures { parts.Done (spec.restart own v.old site view mask) out.old result v.new out.new }
 {
-    let sent = notify(CHANGE, own, view, mask, out);
-    let present = v.view;
-    let restarted = ViewRecord {
-        view: present,
-        suspicions: v.suspicions,
-        target: view,
-        changes: roster::with_site(roster::with_site(0, site), own),
-    };
-    Outcome {
-        answer: Answer::Accepted,
-        sent,
-        views: restarted,
-    }
+    v.target = view;
+    v.changes = roster::with_site(roster::with_site(0, site), own);
+    notify(frame::VIEWCHANGE, own, view, mask, out)
 }
 
 // Adds a site to the target mask. At N-f sites the view becomes the target, and LEADER goes out with the mask.
-fn join(r: Roster, own: u8, v: ViewRecord, site: u8, out: &mut [u8]) -> Outcome
-    ensures { parts.Done (spec.join r own v site) out.old result out.new }
+fn join(r: Roster, own: u8, v: &mut ViewRecord, site: u8, out: &mut [u8]) -> usize
+    ensures { parts.Done (spec.join r own v.old site) out.old result v.new out.new }
 {
-    let target = v.target;
-    let changes = roster::with_site(v.changes, site);
-    let enough = roster::reaches(changes, r.quorum());
-    if !enough {
-        let view = v.view;
-        let joined = ViewRecord {
-            view,
-            suspicions: v.suspicions,
-            target,
-            changes,
-        };
-        return Outcome {
-            answer: Answer::Accepted,
-            sent: 0,
-            views: joined,
-        };
+    v.changes = roster::with_site(v.changes, site);
+    if !roster::reaches(v.changes, r.quorum()) {
+        return 0;
     }
-    let sent = notify(LEADER, own, target, changes, out);
-    let moved = ViewRecord {
-        view: target,
-        suspicions: 0,
-        target: View(0),
-        changes: 0,
+    let sent = notify(frame::LEADER, own, v.target, v.changes, out);
+    *v = ViewRecord {
+        view: v.target,
+        ..ViewRecord::fresh()
     };
-    Outcome {
-        answer: Answer::Accepted,
-        sent,
-        views: moved,
-    }
+    sent
 }
 
-// Does what an accepted frame asks for, by its kind.
-fn perform(r: Roster, own: u8, v: ViewRecord, head: Heading, out: &mut [u8]) -> Outcome
-    requires { eqb head.kind spec.suspicion_kind ≡ true → spec.full r v head.sender ≡ false }
-    ensures { parts.Done (spec.accepted (spec.kind_of head.kind) r own v (parts.read head).frame) out.old result out.new }
+// Does what an accepted frame asks for, by its kind, and answers how many bytes are to be sent.
+fn perform(r: Roster, own: u8, v: &mut ViewRecord, head: Heading, out: &mut [u8]) -> usize
+    requires { eqb head.kind spec.suspicion_kind ≡ true → spec.full r v.old head.sender ≡ false }
+    ensures { parts.Done (spec.accepted (spec.kind_of head.kind) r own v.old (parts.bare head)) out.old result v.new out.new }
 {
-    let suspicion = head.kind == SUSPICION;
-    if suspicion {
+    if head.kind == frame::SUSPICION {
         return suspect(r, own, v, head.sender, out);
     }
-    let view = head.view;
-    let equal = view.equals(v.target);
-    if equal {
+    if head.view == v.target {
         return join(r, own, v, head.sender, out);
     }
-    restart(own, v, head.sender, view, head.mask, out)
+    restart(own, v, head.sender, head.view, head.mask, out)
 }
 
 // ---- the steps
 
-// What a refused call gives: the same record, and nothing is sent.
-fn refuse(v: ViewRecord, answer: Answer) -> Outcome
-    ensures { result ≡ record { answer = answer; sent = 0; views = v } }
+// One step: how much of the buffer is to be sent, or why the line is refused; then record and buffer stay. Any line is answered, in any state.
+pub fn step(
+    r: Roster,
+    own: u8,
+    v: &mut ViewRecord,
+    line: &[u8],
+    out: &mut [u8],
+) -> Result<usize, Refusal>
+    ensures { (outcome result v.new ≡ spec.returned r own v.old line.now out.old) × (out.new ≡ spec.output r own v.old line.now out.old) }
 {
-    Outcome {
-        answer,
-        sent: 0,
-        views: v,
+    if unfit(r, own, out.len(), *v) {
+        return Err(Refusal::Config);
     }
-}
-
-// One step: the answer to a line, how much of the buffer is to be sent, and the record after it. Any line is answered, in any state.
-pub fn step(r: Roster, own: u8, v: ViewRecord, line: &[u8], out: &mut [u8]) -> Outcome
-    ensures { (result ≡ spec.returned r own v line.now out.old) × (out.new ≡ spec.output r own v line.now out.old) }
-{
-    let unfit = config(r, own, out.len(), v);
-    if unfit {
-        return refuse(v, Answer::Refused(Refusal::Config));
-    }
-    let head = frame::read_bare(line, TAKEN);
-    let answer = check(r, v, head);
-    let refused = answer.refuses();
-    if refused {
-        return refuse(v, answer);
-    }
-    perform(r, own, v, head, out)
+    let Some(head) = frame::read_bare(line, TAKEN) else {
+        return Err(Refusal::Form);
+    };
+    check(r, *v, head)?;
+    Ok(perform(r, own, v, head, out))
 }
 
 // The host's own suspicion of a view: it enters as a SUSPICION from itself.
-pub fn suspicion(r: Roster, own: u8, v: ViewRecord, view: View, out: &mut [u8]) -> Outcome
-    ensures { (result ≡ spec.returned r own v (spec.own_suspicion own view) out.old) × (out.new ≡ spec.output r own v (spec.own_suspicion own view) out.old) }
+pub fn suspicion(
+    r: Roster,
+    own: u8,
+    v: &mut ViewRecord,
+    view: View,
+    out: &mut [u8],
+) -> Result<usize, Refusal>
+    ensures { (outcome result v.new ≡ spec.returned r own v.old (spec.own_suspicion own view) out.old) × (out.new ≡ spec.output r own v.old (spec.own_suspicion own view) out.old) }
 {
-    let barred = config(r, own, out.len(), v);
-    if barred {
-        return refuse(v, Answer::Refused(Refusal::Config));
+    if unfit(r, own, out.len(), *v) {
+        return Err(Refusal::Config);
     }
-    let reply = on_suspicion(r, v, own, view);
-    let stops = reply.refuses();
-    if stops {
-        return refuse(v, reply);
-    }
-    suspect(r, own, v, own, out)
+    on_suspicion(r, *v, own, view)?;
+    Ok(suspect(r, own, v, own, out))
 }

@@ -1,31 +1,26 @@
--- `viewchange::step` meets its contract: CONFIG comes first, then the answer to what was read of the line, then the effect. Lines of its kinds have no
--- commands, so the bare reading is the reading.
-use mathlib.Core.Path.{◌∙◌}
+-- `viewchange::step` meets its contract: CONFIG comes first, then FORM, then the frame's checks, then the effect. Lines of its kinds have no commands, so the
+-- bare reading is the reading.
+use Rattle.std.proofs.Common.{sym, ◌∙◌}
 use Rattle.words.specs.Sizes.{limit}
 use Rattle.frame.specs.BareLaws.{bare_reading}
+use Rattle.refusal.specs.AnswerLaws.{passed_on}
 use Rattle.viewchange.specs.ViewChange.{taken}
 use Rattle.viewchange.specs.ViewChangeLaws.{bare_taken}
-use Rattle.viewchange.specs.Code.Parts.{read}
-use Rattle.viewchange.proofs.Calls.{not_full, step_config, step_refused, step_accepted}
+use Rattle.viewchange.proofs.Calls.{not_full, refused, unfit, no_line, checked, done}
 use Rattle.viewchange.proofs.step.Goals as goal
 
 pub returns-then-unfit : goal.returns-then-unfit
-returns-then-unfit c = let given = c.args in
-    rw c.refuse.ensures (step_config given.r given.own given.v given.line.now given.out.now c.config-unfit.result c.config-unfit.ensures c.if-unfit.true)
+returns-then-unfit c = refused _ _ _ _ _ (unfit _ _ _ _ _ (sym c.unfit.ensures ∙ c.if-unfit.true))
 
-pub returns-then-refused : goal.returns-then-refused
-returns-then-refused c = let given = c.args in
-    rw c.refuse-then-refused.ensures
-    (step_refused given.r given.own given.v given.line.now given.out.now c.config-unfit.result c.config-unfit.ensures c.if-unfit.false
-    (read c.read_bare-head.result) (c.read_bare-head.ensures ∙ bare_reading limit given.line.now taken bare_taken)
-    c.check-answer.result c.check-answer.ensures c.refuses-refused.result c.refuses-refused.ensures c.if-refused.true)
+pub returns-in_default : goal.returns-in_default
+returns-in_default c = refused _ _ _ _ _ (no_line _ _ _ _ _ (sym c.unfit.ensures ∙ c.if-unfit.false) (c.in_default.ensures ∙ bare_reading limit c.args.line.now taken bare_taken))
+
+pub returns-in_err-check : goal.returns-in_err-check
+returns-in_err-check c = rw (passed_on _ c.from_residual.ensures.1)
+    (refused _ _ _ _ _ (checked _ _ _ _ _ (sym c.unfit.ensures ∙ c.if-unfit.false) (c.in-Some.ensures ∙ bare_reading limit c.args.line.now taken bare_taken) c.in_err-check.ensures))
 
 pub perform-requires : goal.perform-requires
-perform-requires c = let given = c.args in
-    not_full given.r given.v (read c.read_bare-head.result) c.check-answer.result c.check-answer.ensures c.refuses-refused.result c.refuses-refused.ensures c.if-refused.false
+perform-requires c = not_full _ _ _ c.in_ok-check.ensures
 
 pub returns : goal.returns
-returns c = let given = c.args in
-    step_accepted given.r given.own given.v given.line.now given.out.now c.config-unfit.result c.config-unfit.ensures c.if-unfit.false
-    (read c.read_bare-head.result) (c.read_bare-head.ensures ∙ bare_reading limit given.line.now taken bare_taken)
-    c.check-answer.result c.check-answer.ensures c.refuses-refused.result c.refuses-refused.ensures c.if-refused.false _ _ c.perform.ensures
+returns c = done _ _ _ _ _ (sym c.unfit.ensures ∙ c.if-unfit.false) (c.in-Some.ensures ∙ bare_reading limit c.args.line.now taken bare_taken) c.in_ok-check.ensures c.perform.ensures

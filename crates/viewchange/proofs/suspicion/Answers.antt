@@ -1,33 +1,18 @@
 -- `viewchange::suspicion` meets its contract: CONFIG comes first, then a SUSPICION from `own` itself, as which its line is read.
-use mathlib.Core.Path.{refl, sym}
-use mathlib.Core.Bool.{true}
-use native.Mathlib.Omega.{arith}
-use Rattle.refusal.specs.Rules.{judged}
-use Rattle.viewchange.specs.ViewChange.{suspicion_kind, notice, own_suspicion}
-use Rattle.viewchange.specs.ViewChangeLaws.{own_read}
-use Rattle.viewchange.proofs.Calls.{not_full, step_config, step_refused, step_accepted}
+use Rattle.std.proofs.Common.{refl, sym, ◌∙◌, arith}
+use Rattle.refusal.specs.AnswerLaws.{passed_on}
+use Rattle.viewchange.proofs.Calls.{own_heading, own_heading_read, not_full, refused, unfit, checked, done}
 use Rattle.viewchange.proofs.suspicion.Goals as goal
 
-pub returns-then-barred : goal.returns-then-barred
-returns-then-barred c = let given = c.args in
-    rw c.refuse.ensures (step_config given.r given.own given.v (own_suspicion given.own given.view) given.out.now c.config-barred.result c.config-barred.ensures c.if-barred.true)
+pub returns-then-unfit : goal.returns-then-unfit
+returns-then-unfit c = refused _ _ _ _ _ (unfit _ _ _ _ _ (sym c.unfit.ensures ∙ c.if-unfit.true))
 
-pub returns-then-stops : goal.returns-then-stops
-unfolding judged
-returns-then-stops c = let given = c.args in
-    rw c.refuse-then-stops.ensures
-    (step_refused given.r given.own given.v (own_suspicion given.own given.view) given.out.now c.config-barred.result c.config-barred.ensures c.if-barred.false
-    (record { found = true; frame = notice suspicion_kind given.own given.view 0 }) (sym (own_read given.own given.view (omega arith) (omega arith)))
-    c.on_suspicion-reply.result c.on_suspicion-reply.ensures c.refuses-stops.result c.refuses-stops.ensures c.if-stops.true)
+pub returns-in_err-on_suspicion : goal.returns-in_err-on_suspicion
+returns-in_err-on_suspicion c = rw (passed_on _ c.from_residual.ensures.1)
+    (refused _ _ _ _ _ (checked _ _ _ _ _ (sym c.unfit.ensures ∙ c.if-unfit.false) {head = own_heading c.args.own c.args.view} (own_heading_read c.args.own c.args.view (omega arith) (omega arith)) c.in_err-on_suspicion.ensures))
 
 pub suspect-requires : goal.suspect-requires
-unfolding judged
-suspect-requires c = let given = c.args in
-    not_full given.r given.v (record { found = true; frame = notice suspicion_kind given.own given.view 0 }) c.on_suspicion-reply.result c.on_suspicion-reply.ensures c.refuses-stops.result c.refuses-stops.ensures c.if-stops.false refl
+suspect-requires c = not_full c.args.r c.args.v.now (own_heading c.args.own c.args.view) c.in_ok-on_suspicion.ensures refl
 
 pub returns : goal.returns
-unfolding judged
-returns c = let given = c.args in
-    step_accepted given.r given.own given.v (own_suspicion given.own given.view) given.out.now c.config-barred.result c.config-barred.ensures c.if-barred.false
-    (record { found = true; frame = notice suspicion_kind given.own given.view 0 }) (sym (own_read given.own given.view (omega arith) (omega (arith, c.well_formed))))
-    c.on_suspicion-reply.result c.on_suspicion-reply.ensures c.refuses-stops.result c.refuses-stops.ensures c.if-stops.false _ _ c.suspect.ensures
+returns c = done _ _ _ _ _ (sym c.unfit.ensures ∙ c.if-unfit.false) {head = own_heading c.args.own c.args.view} (own_heading_read c.args.own c.args.view (omega arith) (omega (arith, c.well_formed))) c.in_ok-on_suspicion.ensures c.suspect.ensures
