@@ -196,7 +196,8 @@ pub fn suspicion(
 ) -> Result<usize, Refusal>
     ensures { (outcome result v.new ≡ spec.returned r own v.old (spec.own_suspicion own view) out.old) × (out.new ≡ spec.output r own v.old (spec.own_suspicion own view) out.old) }
 {
-    if unfit(r, own, out.len(), *v) {
+    let barred = unfit(r, own, out.len(), *v);
+    if barred {
         return Err(Refusal::Config);
     }
     on_suspicion(r, *v, own, view)?;
