@@ -1,20 +1,13 @@
--- `history::improper` meets its contract: each return is an arm of the definition, under the tests that led there.
-use mathlib.Core.Path.{sym, ◌∙◌}
+-- `history::improper` meets its contract: it asks the three tests of the definition in their order.
+use Rattle.std.proofs.Common.{rules}
 use Rattle.history.specs.History.{improper}
 use Rattle.history.proofs.improper.Goals as goal
+use Rattle.history.proofs.improper.Goals.{then-repeated, else-repeated}
 
-pub returns-then-doubled : goal.returns-then-doubled
+pub returns-then-not-is_canonical : goal.returns-then-not-is_canonical
 unfolding improper
-returns-then-doubled c = rw (sym c.repeated-doubled.ensures ∙ c.if-doubled.true)
+returns-then-not-is_canonical c = elim c.if-repeated.branch [ then-repeated w ↦ search rules | else-repeated w ↦ search rules ]
 
-pub returns-then-not-ordered : goal.returns-then-not-ordered
+pub returns-else-not-is_canonical : goal.returns-else-not-is_canonical
 unfolding improper
-returns-then-not-ordered c = let repeated-call = c.repeated-doubled in
-    let if1 = c.if-doubled in
-    rw (sym repeated-call.ensures ∙ if1.false, sym c.is_canonical-ordered.ensures ∙ c.if-not-ordered.true)
-
-pub returns : goal.returns
-unfolding improper
-returns c = let repeated-call = c.repeated-doubled in
-    let if1 = c.if-doubled in
-    rw (sym repeated-call.ensures ∙ if1.false, sym c.is_canonical-ordered.ensures ∙ c.if-not-ordered.false)
+returns-else-not-is_canonical c = elim c.if-repeated.branch [ then-repeated w ↦ search rules | else-repeated w ↦ search rules ]

@@ -5,10 +5,10 @@ use Rattle.history.specs.Words.{valid_stored}
 use Rattle.history.specs.History.{valid_history}
 use Rattle.history.proofs.lendable.Goals as goal
 
-pub returns-then-not-fits : goal.returns-then-not-fits
+pub returns-else-count-limit : goal.returns-else-count-limit
 unfolding valid_stored
-returns-then-not-fits c = rw (lt-leb _ _ c.if-not-fits.true)
+returns-else-count-limit c = rw (lt-leb _ _ c.if-count-limit.false)
 
-pub returns : goal.returns
+pub returns-then-count-limit : goal.returns-then-count-limit
 unfolding valid_stored
-returns c = rw (le-leb _ _ c.if-not-fits.false) (c.valid.ensures ∙ ap valid_history c.first.ensures)
+returns-then-count-limit c = rw (le-leb _ _ c.if-count-limit.true) (c.valid.ensures ∙ ap valid_history c.first.ensures)

@@ -6,5 +6,6 @@ use lib.ListN.{get_or}
 use Rattle.history.proofs.Marks.{unmarked_absent}
 use Rattle.history.proofs.met.Goals as goal
 
-pub returns-else-known : goal.returns-else-known
-returns-else-known c = sym (unmarked_absent c.args.seen.now c.args.c c.args.h.now c.requires (ap (λ (k : ℕ). get_or c.args.seen.now k false) (sym c.mark-at.ensures) ∙ c.if-known.false))
+pub returns-else-seen-mark : goal.returns-else-seen-mark
+returns-else-seen-mark c = c.if-seen-mark.false
+    ∙ sym (unmarked_absent c.args.seen.now c.args.c c.args.h.now c.requires (ap (λ (k : ℕ). get_or c.args.seen.now k false) (sym c.mark.ensures) ∙ c.if-seen-mark.false))

@@ -1,23 +1,13 @@
 -- `history::valid` meets its contract: it asks the three tests of the definition in their order.
-use mathlib.Core.Path.{sym, ◌∙◌}
+use Rattle.std.proofs.Common.{rules}
 use Rattle.history.specs.History.{valid_history}
 use Rattle.history.proofs.valid.Goals as goal
+use Rattle.history.proofs.valid.Goals.{then-all_valid, else-all_valid}
 
-pub returns-then-not-good : goal.returns-then-not-good
+pub returns-then-not-repeated : goal.returns-then-not-repeated
 unfolding valid_history
-returns-then-not-good c = rw (sym c.all_valid-good.ensures ∙ c.if-not-good.true)
+returns-then-not-repeated c = search rules
 
-pub returns-then-twice : goal.returns-then-twice
+pub returns-else-not-repeated : goal.returns-else-not-repeated
 unfolding valid_history
-returns-then-twice c = let all-valid-call = c.all_valid-good in
-    let if1 = c.if-not-good in
-    let repeated-call = c.repeated-twice in
-    rw (sym all-valid-call.ensures ∙ if1.false, sym repeated-call.ensures ∙ c.if-twice.true)
-
-pub returns : goal.returns
-unfolding valid_history
-returns c = let all-valid-call = c.all_valid-good in
-    let if1 = c.if-not-good in
-    let repeated-call = c.repeated-twice in
-    let if2 = c.if-twice in
-    rw (sym all-valid-call.ensures ∙ if1.false, sym repeated-call.ensures ∙ if2.false) c.is_canonical.ensures
+returns-else-not-repeated c = elim c.if-all_valid.branch [ then-all_valid w ↦ search rules | else-all_valid w ↦ search rules ]
