@@ -39,6 +39,7 @@ fn mark(c: u64) -> usize
 }
 
 // Whether some command of h has c's proposer and serial, where the marks of all commands of h are set.
+#[tactic(auto, using(crate::proofs::Marks::unmarked_absent))]
 fn met(c: u64, h: &[u64], seen: &[bool; MARKS]) -> bool
     requires { marks.marked seen.now h.now ≡ true }
     ensures { result ≡ spec.present c h.now }
@@ -81,6 +82,7 @@ pub fn repeated(h: &[u64]) -> bool
 
 // Whether h is a valid history: valid commands, no proposer and serial twice, canonical order. This is what CONFIG asks besides the length;
 // a frame's history is tested by the three tests apart, since their refusals differ.
+#[tactic(auto, unfolding(crate::specs::History::valid_history))]
 pub fn valid(h: &[u64]) -> bool
     ensures { result ≡ spec.valid_history h.now }
 {
@@ -88,6 +90,7 @@ pub fn valid(h: &[u64]) -> bool
 }
 
 // Whether the history of these words and this count may be lent: at most as many commands as the limit says, and valid.
+#[tactic(auto, unfolding(crate::specs::Words::valid_stored))]
 pub fn lendable(limit: u8, words: &[u64], count: u8) -> bool
     ensures { result ≡ valid_stored limit (history_of words.now count) }
 {
@@ -95,6 +98,7 @@ pub fn lendable(limit: u8, words: &[u64], count: u8) -> bool
 }
 
 // Whether a list that a frame carries is refused with HISTORY: a proposer and serial twice, not in canonical order, or empty.
+#[tactic(auto, unfolding(crate::specs::History::improper))]
 pub fn improper(h: &[u64]) -> bool
     ensures { result ≡ spec.improper h.now }
 {
@@ -133,11 +137,11 @@ pub fn is_canonical(h: &[u64]) -> bool
     ensures { result ≡ spec.is_canonical h.now }
 {
     let mut largest: u64 = 0;
-    for i in 0..h.len() {
+    for (i, &c) in h.iter().enumerate() {
         if place_below(h, i, largest) != i {
             return false;
         }
-        largest = largest.max(h[i]);
+        largest = largest.max(c);
     }
     true
 }
@@ -159,11 +163,10 @@ fn find(c: u64, h: &[u64]) -> usize
     ensures { result ≡ front.off_at c h.now }
 {
     for i in 0..h.len() {
-        let d = h[i];
-        if c == d {
+        if c == h[i] {
             return i;
         }
-        if command::conflict(c, d) {
+        if command::conflict(c, h[i]) {
             break;
         }
     }
@@ -224,17 +227,9 @@ impl History {
     {
         let mut w = [0u64; words::CAPACITY];
         fill(&mut w, h);
-        let n = h.len();
-        if n < words::CAPACITY {
-            History {
-                count: n as u8,
-                words: w,
-            }
-        } else {
-            History {
-                count: 32,
-                words: w,
-            }
+        History {
+            count: h.len().min(words::CAPACITY) as u8,
+            words: w,
         }
     }
 }

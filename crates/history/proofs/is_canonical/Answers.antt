@@ -20,7 +20,7 @@ returns-then-place_below-i c = sym (stays_stop _ c.loop-i.i (omega arith) (λ e.
 pub loop-i-preserved : goal.loop-i-preserved
 loop-i-preserved c = (
   sym (stays_more _ c.loop-i.i (omega arith) (sym c.place_below.ensures.1 ∙ c.if-place_below-i.false)) ∙ c.loop-i.invariant.0,
-  bounded_next _ c.loop-i.i _ _ (omega arith) (omega (arith, c.max-largest.ensures)) (omega (arith, c.max-largest.ensures)) c.loop-i.invariant.1,
+  bounded_next _ c.loop-i.i _ _ (omega arith) (omega arith) (omega arith) c.loop-i.invariant.1,
 )
 
 pub returns : goal.returns

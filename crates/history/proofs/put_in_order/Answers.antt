@@ -21,7 +21,7 @@ pub loop-i-preserved : goal.loop-i-preserved
 loop-i-preserved c = let turn = c.loop-i in
     let at = c.place_below-at.result in
     arrange_turn turn.h turn.i at _ _ _ _ c.rotate_right.new.self turn.invariant c.place_below-at.ensures.0 (omega arith) c.place_below-at.ensures.1
-    (omega (arith, c.max-largest.ensures)) (omega (arith, c.max-largest.ensures))
+    (omega arith) (omega arith)
     (c.rotate_right.ensures.after ∙ rotated_right _ (part_some turn.h turn.i at c.place_below-at.ensures.0 (omega arith)))
 
 pub returns : goal.returns
