@@ -80,15 +80,7 @@ fn row_valid<'a>(limit: u8, words: &'a [u64], counts: &'a [u8], site: usize, n: 
 pub fn rows_valid<'a>(limit: u8, words: &'a [u64], counts: &'a [u8], n: u8) -> bool
     ensures { result ≡ all_to sites (spec.valid_row limit n words.now counts.now) }
 {
-    let mut i: usize = 0;
-    while i < Table::SITES {
-        let good = row_valid(limit, words, counts, i, n);
-        if !good {
-            return false;
-        }
-        i += 1;
-    }
-    true
+    (0..Table::SITES).all(|i| row_valid(limit, words, counts, i, n))
 }
 
 impl Table {
