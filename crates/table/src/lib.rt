@@ -19,10 +19,7 @@ pub struct Table {
 pub fn row<'a>(words: &'a [u64], counts: &'a [u8], site: usize) -> &'a [u64]
     ensures { result.now ≡ spec.row words.now counts.now site }
 {
-    if counts.len() <= site {
-        return &words[..0];
-    }
-    if words.len() / words::CAPACITY <= site {
+    if counts.len() <= site || words.len() / words::CAPACITY <= site {
         return &words[..0];
     }
     let n = counts[site] as usize;
@@ -38,17 +35,11 @@ pub fn row<'a>(words: &'a [u64], counts: &'a [u8], site: usize) -> &'a [u64]
 pub fn store(words: &mut [u64], counts: &mut [u8], site: usize, h: &[u64])
     ensures { spec.table_of words.new counts.new ≡ spec.stored_in words.old counts.old site h.now }
 {
-    if counts.len() < Table::SITES {
-        return;
-    }
-    if words.len() < words::CAPACITY * Table::SITES {
-        return;
-    }
-    if Table::SITES <= site {
+    if counts.len() < Table::SITES || words.len() < words::CAPACITY * Table::SITES {
         return;
     }
     let len = h.len();
-    if words::CAPACITY < len {
+    if Table::SITES <= site || words::CAPACITY < len {
         return;
     }
     counts[site] = len as u8;
