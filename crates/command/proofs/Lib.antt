@@ -1,2 +1,3 @@
--- Laws of the table of kinds.
+-- Laws of the table of kinds, and of chains over a list of commands.
 pub mod KindsLaws
+mod Chains

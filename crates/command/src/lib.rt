@@ -99,30 +99,14 @@ pub fn valid(c: u64) -> bool
 pub fn all_valid(h: &[u64]) -> bool
     ensures { result ≡ spec.all_valid h.now }
 {
-    let mut i: usize = 0;
-    while i < h.len() {
-        let good = valid(h[i]);
-        if !good {
-            return false;
-        }
-        i += 1;
-    }
-    true
+    h.iter().all(|c| valid(*c))
 }
 
 // Whether each command of h is by this proposer.
 pub fn all_by(by: u8, h: &[u64]) -> bool
     ensures { result ≡ spec.all_by by h.now }
 {
-    let mut next: usize = 0;
-    while next < h.len() {
-        let own = proposer(h[next]) == by;
-        if !own {
-            return false;
-        }
-        next += 1;
-    }
-    true
+    h.iter().all(|c| proposer(*c) == by)
 }
 
 // Whether two commands are of one proposer and serial.

@@ -1,51 +1,44 @@
 -- What one turn of each loop does to the definition that the loop computes: the loop stops, goes on with one command less, or has come to the end.
-use mathlib.Core.Path.{◌≡◌, refl}
-use mathlib.Core.Bool.{true, false, cond}
-use mathlib.Core.List.{List, [], ◌∷◌, ◌++◌, append-nil}
+use mathlib.Core.Path.{◌≡◌, refl, sym, ap, ◌∙◌}
+use Rattle.std.specs.List.{list_any, range_with_len}
+use mathlib.Core.Bool.{true, false, cond, ◌||◌}
+use mathlib.Core.List.{List, [], ◌∷◌, ◌++◌}
 use Prim.Native.Nat.{ℕ, zero, suc, ◌+◌, ◌-◌, ◌≤◌, ◌<◌}
 use native.Mathlib.Omega.{arith}
-use native.Mathlib.Numerals.{add-one, sub-one}
+use native.Mathlib.Numerals.{sub-one}
 use borrow.Author.Tests.{eq-eqb, ne_eqb, lt-ltb, le-ltb}
 use lib.Dec.{ltb}
-use lib.ListN.{length, take, drop, get_or, set, drop_of_length-le, length-drop}
-use lib.Seq.{take-length, take_all, length-take-le, append_snoc, take-suc-set, drop-set-lt}
+use lib.ListN.{length, take, drop, get_or, drop_of_length-le, length-take, length-drop}
+use lib.Seq.{take-length, take_all, length-take-le}
 use Rattle.basics.specs.Lists.{drop_next, take_next}
 use Rattle.command.specs.Command.{conflict, same_request}
 use Rattle.history.specs.History.{present, repeated}
 use Rattle.history.specs.Code.Insertion.{place, stays, walk}
-use Rattle.history.specs.Front.{off_at, shifted, rotated}
+use Rattle.history.specs.Front.{off_at, rotated}
+use Rattle.history.specs.FrontLaws.{rotated_last}
 
 -- the part of a list from a on, as a slice `&h[a..]` is made of it
 pub tail_part : (h : List ℕ) (a : ℕ) → take (length h - a) (drop a h) ≡ drop a h
 tail_part h a = rw (← length-drop a h) (take-length (drop a h))
 
--- ---- present
+-- ---- present and repeated, as the chains compute them
 
-pub present_stop : (c : ℕ) (h : List ℕ) (i : ℕ) → i < length h → same_request c (get_or h i 0) ≡ true → present c (drop i h) ≡ true
+pub present_chain : (c : ℕ) (h : List ℕ) → present c h ≡ list_any (same_request c) h
 unfolding present
-present_stop c h i p e = rw (drop_next h i p, e)
+present_chain c [] = refl
+present_chain c (d ∷ h) = ap (λ b. same_request c d || b) (present_chain c h)
 
-pub present_more : (c : ℕ) (h : List ℕ) (i : ℕ) → i < length h → same_request c (get_or h i 0) ≡ false → present c (drop i h) ≡ present c (drop (i + 1) h)
-unfolding present
-present_more c h i p e = rw (drop_next h i p, e)
-
-pub present_end : (c : ℕ) (h : List ℕ) (i : ℕ) → length h ≤ i → present c (drop i h) ≡ false
-unfolding present
-present_end c h i p = rw (drop_of_length-le h p)
-
--- ---- repeated
-
-pub repeated_stop : (h : List ℕ) (i : ℕ) → i < length h → present (get_or h i 0) (drop (i + 1) h) ≡ true → repeated (drop i h) ≡ true
+-- from position i on, of the n that are left
+repeated_from : (h : List ℕ) (i n : ℕ) → i + n ≡ length h
+    → repeated (drop i h) ≡ list_any (λ k. present (get_or h k 0) (take (length h - (k + 1)) (drop (k + 1) h))) (range_with_len i n)
 unfolding repeated
-repeated_stop h i p e = rw (drop_next h i p, e)
+repeated_from h i zero e = rw (drop_of_length-le h {i = i} (omega arith))
+repeated_from h i (suc n) e =
+    rw (drop_next h i (omega arith), tail_part h (i + 1))
+    (ap (λ b. present (get_or h i 0) (drop (i + 1) h) || b) (repeated_from h (i + 1) n (omega arith)))
 
-pub repeated_more : (h : List ℕ) (i : ℕ) → i < length h → present (get_or h i 0) (drop (i + 1) h) ≡ false → repeated (drop i h) ≡ repeated (drop (i + 1) h)
-unfolding repeated
-repeated_more h i p e = rw (drop_next h i p, e)
-
-pub repeated_end : (h : List ℕ) (i : ℕ) → length h ≤ i → repeated (drop i h) ≡ false
-unfolding repeated
-repeated_end h i p = rw (drop_of_length-le h p)
+pub repeated_chain : (h : List ℕ) → repeated h ≡ list_any (λ k. present (get_or h k 0) (take (length h - (k + 1)) (drop (k + 1) h))) (range_with_len 0 (length h))
+repeated_chain h = repeated_from h 0 (length h) (omega arith)
 
 -- ---- walking left
 
@@ -102,19 +95,13 @@ find_end c h i p = rw (drop_of_length-le h p) (omega arith)
 
 -- ---- rotating
 
-pub shifted_more : (s : List ℕ) (k c : ℕ) → k < length s → take (k + 1) (set s k c) ++ shifted (get_or s k 0) (drop (k + 1) (set s k c)) ≡ take k s ++ shifted c (drop k s)
-unfolding shifted
-shifted_more s k c p = rw (drop_next s k p, add-one, take-suc-set s k c p, drop-set-lt (suc k) s k c (omega arith)) (append_snoc (take k s) c (shifted (get_or s k 0) (drop (suc k) s)))
+-- the list after `s.rotate_right(1)`
+pub rotated_right : (s : List ℕ) → 1 ≤ length s → drop (length s - 1) s ++ take (length s - 1) s ≡ rotated s
+rotated_right s p =
+    let n = length s - 1 in
+    let whole : take n s ++ get_or s n 0 ∷ [] ≡ s = sym (take_next s n (omega arith)) ∙ take_all (n + 1) s (omega arith) in
+    rw (drop_next s n (omega arith), drop_of_length-le s {i = n + 1} (omega arith)) (sym (rotated_last (take n s) (get_or s n 0)) ∙ ap rotated whole)
 
-pub shifted_end : (s : List ℕ) (k c : ℕ) → length s ≤ k → take k s ++ shifted c (drop k s) ≡ s
-unfolding shifted
-shifted_end s k c p = rw (drop_of_length-le s p, take_all k s p) (append-nil s)
-
-pub rotated_nil : (s : List ℕ) → length s ≡ 0 → rotated s ≡ s
-unfolding rotated shifted
-rotated_nil [] p = refl
-rotated_nil (c ∷ s) p = absurd (omega arith)
-
-pub rotated_start : (s : List ℕ) → shifted (get_or s (length s - 1) 0) s ≡ rotated s
-unfolding rotated
-rotated_start s = refl
+-- the part `&h[to..=from]` has an element
+pub part_some : (h : List ℕ) (from to : ℕ) → to ≤ from → from < length h → 1 ≤ length (take (from + 1 - to) (drop to h))
+part_some h from to p q = rw (length-take, length-drop) (omega arith)

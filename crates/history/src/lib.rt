@@ -28,15 +28,7 @@ pub struct History {
 pub fn present(c: u64, h: &[u64]) -> bool
     ensures { result ≡ spec.present c h.now }
 {
-    let mut i: usize = 0;
-    while i < h.len() {
-        let same = command::same_request(c, h[i]);
-        if same {
-            return true;
-        }
-        i += 1;
-    }
-    false
+    h.iter().any(|d| command::same_request(c, *d))
 }
 
 // The number of c's mark: one for all commands of a proposer and serial.
@@ -47,13 +39,12 @@ fn mark(c: u64) -> usize
 }
 
 // Whether some command of h has c's proposer and serial, where the marks of all commands of h are set.
+#[tactic(auto, using(crate::proofs::Marks::unmarked_absent))]
 fn met(c: u64, h: &[u64], seen: &[bool; MARKS]) -> bool
     requires { marks.marked seen.now h.now ≡ true }
     ensures { result ≡ spec.present c h.now }
 {
-    let at = mark(c);
-    let known = seen[at];
-    if known { present(c, h) } else { false }
+    seen[mark(c)] && present(c, h)
 }
 
 // `repeated` by marks, from the last command to the first: only a command whose mark is set is compared with those after it.
@@ -61,16 +52,12 @@ fn repeated_by_marks(h: &[u64]) -> bool
     ensures { result ≡ spec.repeated h.now }
 {
     let mut seen = [false; MARKS];
-    let mut i = h.len();
-    while 0 < i {
-        let c = h[i - 1];
-        let repeat = met(c, &h[i..], &seen);
-        if repeat {
+    for i in (0..h.len()).rev() {
+        let c = h[i];
+        if met(c, &h[i + 1..], &seen) {
             return true;
         }
-        let at = mark(c);
-        seen[at] = true;
-        i -= 1;
+        seen[mark(c)] = true;
     }
     false
 }
@@ -79,15 +66,7 @@ fn repeated_by_marks(h: &[u64]) -> bool
 fn repeated_by_pairs(h: &[u64]) -> bool
     ensures { result ≡ spec.repeated h.now }
 {
-    let mut i: usize = 0;
-    while i < h.len() {
-        let again = present(h[i], &h[i + 1..]);
-        if again {
-            return true;
-        }
-        i += 1;
-    }
-    false
+    (0..h.len()).any(|i| present(h[i], &h[i + 1..]))
 }
 
 // Whether two commands of h have one proposer and serial. Of a few commands each two are compared, which is quicker than clearing the marks.
@@ -103,44 +82,27 @@ pub fn repeated(h: &[u64]) -> bool
 
 // Whether h is a valid history: valid commands, no proposer and serial twice, canonical order. This is what CONFIG asks besides the length;
 // a frame's history is tested by the three tests apart, since their refusals differ.
+#[tactic(auto, unfolding(crate::specs::History::valid_history))]
 pub fn valid(h: &[u64]) -> bool
     ensures { result ≡ spec.valid_history h.now }
 {
-    let good = command::all_valid(h);
-    if !good {
-        return false;
-    }
-    let twice = repeated(h);
-    if twice {
-        return false;
-    }
-    is_canonical(h)
+    command::all_valid(h) && !repeated(h) && is_canonical(h)
 }
 
 // Whether the history of these words and this count may be lent: at most as many commands as the limit says, and valid.
+#[tactic(auto, unfolding(crate::specs::Words::valid_stored))]
 pub fn lendable(limit: u8, words: &[u64], count: u8) -> bool
     ensures { result ≡ valid_stored limit (history_of words.now count) }
 {
-    let fits = count <= limit;
-    if !fits {
-        return false;
-    }
-    valid(first(words, count as usize))
+    count <= limit && valid(first(words, count as usize))
 }
 
 // Whether a list that a frame carries is refused with HISTORY: a proposer and serial twice, not in canonical order, or empty.
+#[tactic(auto, unfolding(crate::specs::History::improper))]
 pub fn improper(h: &[u64]) -> bool
     ensures { result ≡ spec.improper h.now }
 {
-    let doubled = repeated(h);
-    if doubled {
-        return true;
-    }
-    let ordered = is_canonical(h);
-    if !ordered {
-        return true;
-    }
-    h.len() == 0
+    repeated(h) || !is_canonical(h) || h.is_empty()
 }
 
 // The place of the command at n among those before it, found by walking left until one conflicts.
@@ -150,13 +112,10 @@ fn place(h: &[u64], n: usize) -> usize
 {
     let c = h[n];
     let mut at = n;
-    let mut k = n;
-    while 0 < k {
-        k -= 1;
+    for k in (0..n).rev() {
         let d = h[k];
-        let stop = command::conflict(c, d);
-        if stop {
-            return at;
+        if command::conflict(c, d) {
+            break;
         }
         if c < d {
             at = k;
@@ -173,45 +132,18 @@ fn place_below(h: &[u64], n: usize, largest: u64) -> usize
     if largest <= h[n] { n } else { place(h, n) }
 }
 
-// The larger of two commands.
-fn larger(a: u64, b: u64) -> u64
-    ensures { (a ≤ result) × (b ≤ result) }
-{
-    if a < b { b } else { a }
-}
-
 // Whether h is in canonical order: whether each command has its place where it stands.
 pub fn is_canonical(h: &[u64]) -> bool
     ensures { result ≡ spec.is_canonical h.now }
 {
     let mut largest: u64 = 0;
-    let mut i: usize = 0;
-    while i < h.len() {
+    for (i, &c) in h.iter().enumerate() {
         if place_below(h, i, largest) != i {
             return false;
         }
-        largest = larger(largest, h[i]);
-        i += 1;
+        largest = largest.max(c);
     }
     true
-}
-
-// The last command of s goes before the others.
-fn rotate(s: &mut [u64])
-    ensures { s.new ≡ front.rotated s.old }
-{
-    let n = s.len();
-    if n == 0 {
-        return;
-    }
-    let mut carry = s[n - 1];
-    let mut k: usize = 0;
-    while k < n {
-        let d = s[k];
-        s[k] = carry;
-        carry = d;
-        k += 1;
-    }
 }
 
 // Puts h in canonical order.
@@ -219,12 +151,10 @@ pub fn put_in_order(h: &mut [u64])
     ensures { h.new ≡ spec.canonical h.old }
 {
     let mut largest: u64 = 0;
-    let mut i: usize = 0;
-    while i < h.len() {
+    for i in 0..h.len() {
         let at = place_below(h, i, largest);
-        largest = larger(largest, h[i]);
-        rotate(&mut h[at..i + 1]);
-        i += 1;
+        largest = largest.max(h[i]);
+        h[at..=i].rotate_right(1);
     }
 }
 
@@ -232,34 +162,27 @@ pub fn put_in_order(h: &mut [u64])
 fn find(c: u64, h: &[u64]) -> usize
     ensures { result ≡ front.off_at c h.now }
 {
-    let mut i: usize = 0;
-    while i < h.len() {
-        let d = h[i];
-        if c == d {
+    for i in 0..h.len() {
+        if c == h[i] {
             return i;
         }
-        let blocked = command::conflict(c, d);
-        if blocked {
-            return h.len();
+        if command::conflict(c, h[i]) {
+            break;
         }
-        i += 1;
     }
-    i
+    h.len()
 }
 
 // Brings g's commands to the front of work, and says whether all of them came: whether work extends g.
 pub fn bring(work: &mut [u64], g: &[u64]) -> bool
     ensures { (result ≡ spec.extends work.old g.now) × (work.new ≡ front.fronted work.old g.now) }
 {
-    let n = work.len();
-    let mut i: usize = 0;
-    while i < g.len() {
+    for i in 0..g.len() {
         let at = i + find(g[i], &work[i..]);
-        if n <= at {
+        if work.len() <= at {
             return false;
         }
-        rotate(&mut work[i..at + 1]);
-        i += 1;
+        work[i..=at].rotate_right(1);
     }
     true
 }
@@ -290,19 +213,11 @@ fn extends_past(h: &[u64], g: &[u64], k: usize) -> bool
 pub fn extends(h: &[u64], g: &[u64]) -> bool
     ensures { result ≡ words.extends_within words.union_capacity h.now g.now }
 {
-    let fits = h.len() <= WORK;
-    if !fits {
-        return false;
-    }
-    if h.len() < g.len() {
+    if h.len() > WORK || h.len() < g.len() {
         return false;
     }
     let k = words::common(h, g);
-    if k == g.len() {
-        true
-    } else {
-        extends_past(h, g, k)
-    }
+    k == g.len() || extends_past(h, g, k)
 }
 
 // How many commands of h there is room for.

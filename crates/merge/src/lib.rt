@@ -17,28 +17,17 @@ pub struct Merged {
     pub history: History,
 }
 
-// The smaller of two numbers.
-fn smaller(a: usize, b: usize) -> usize
-    ensures { result ≡ min a b }
-{
-    if a < b { a } else { b }
-}
-
 // Appends to the first count words of buf the commands of more whose proposer and serial are not there yet, up to the end of buf.
 // Answers how many words there are then; the words behind them stay. A count past the end of buf counts as its length.
 pub fn append(buf: &mut [u64], count: usize, more: &[u64]) -> usize
     ensures { (result ≡ length (spec.appended_in buf.old count more.now)) × (buf.new ≡ spec.appended_in buf.old count more.now ++ drop result buf.old) }
 {
-    let mut n = smaller(count, buf.len());
-    let mut i: usize = 0;
-    while i < more.len() {
+    let mut n = count.min(buf.len());
+    for &c in more {
         if buf.len() <= n {
-            return n;
+            break;
         }
-        let c = more[i];
-        i += 1;
-        let old = history::present(c, &buf[..n]);
-        if !old {
+        if !history::present(c, &buf[..n]) {
             buf[n] = c;
             n += 1;
         }
@@ -47,59 +36,32 @@ pub fn append(buf: &mut [u64], count: usize, more: &[u64]) -> usize
 }
 
 // Whether g holds c, byte for byte.
+#[tactic(auto, using(crate::proofs::Scans::holds_any))]
 pub fn holds(g: &[u64], c: u64) -> bool
     ensures { result ≡ appending.holds g.now c }
 {
-    let mut i: usize = 0;
-    while i < g.len() {
-        if c == g[i] {
-            return true;
-        }
-        i += 1;
-    }
-    false
+    g.contains(&c)
 }
 
 // Whether g holds c's proposer and serial with other bytes.
 fn differs(g: &[u64], c: u64) -> bool
     ensures { result ≡ appending.differs g.now c }
 {
-    let known = history::present(c, g);
-    if !known {
-        return false;
-    }
-    let held = holds(g, c);
-    !held
+    history::present(c, g) && !holds(g, c)
 }
 
 // Whether g holds some command's proposer and serial of h with other bytes.
 pub fn reuses(g: &[u64], h: &[u64]) -> bool
     ensures { result ≡ appending.reuses g.now h.now }
 {
-    let mut i: usize = 0;
-    while i < h.len() {
-        let reused = differs(g, h[i]);
-        if reused {
-            return true;
-        }
-        i += 1;
-    }
-    false
+    h.iter().any(|c| differs(g, *c))
 }
 
 // Whether g holds every command of h already.
 pub fn nothing_new(g: &[u64], h: &[u64]) -> bool
     ensures { result ≡ appending.nothing_new g.now h.now }
 {
-    let mut i: usize = 0;
-    while i < h.len() {
-        let held = holds(g, h[i]);
-        if !held {
-            return false;
-        }
-        i += 1;
-    }
-    true
+    h.iter().all(|c| holds(g, *c))
 }
 
 // Whether g with the commands of h appended that are not there yet is over the limit; one over 32 counts as 32. Where there is room for all of
@@ -107,13 +69,10 @@ pub fn nothing_new(g: &[u64], h: &[u64]) -> bool
 pub fn overflows(limit: u8, g: &[u64], h: &[u64]) -> bool
     ensures { result ≡ appending.overflows (min limit capacity) g.now h.now }
 {
-    let most = smaller(limit as usize, words::CAPACITY);
+    let most = (limit as usize).min(words::CAPACITY);
     let m = g.len();
-    if m <= most {
-        let room = most - m;
-        if h.len() <= room {
-            return false;
-        }
+    if m <= most && h.len() <= most - m {
+        return false;
     }
     let mut work = [0u64; history::WORK];
     history::fill(&mut work, g);
@@ -155,12 +114,10 @@ impl Merged {
 fn settle(most: usize, work: &mut [u64], h: &[u64]) -> Merged
     ensures { result ≡ answer.answer_of most work.old h.now }
 {
-    let extends = history::bring(work, h);
-    if !extends {
+    if !history::bring(work, h) {
         return Merged::split();
     }
-    let fits = work.len() <= most;
-    if !fits {
+    if work.len() > most {
         return Merged::full();
     }
     history::put_in_order(work);
@@ -176,12 +133,7 @@ fn merge_within(most: usize, g: &[u64], h: &[u64]) -> Merged
     requires { most ≤ capacity }
     ensures { result ≡ answer.merged most g.now h.now }
 {
-    let short_g = g.len() <= most;
-    if !short_g {
-        return Merged::full();
-    }
-    let short_h = h.len() <= most;
-    if !short_h {
+    if g.len() > most || h.len() > most {
         return Merged::full();
     }
     let mut work = [0u64; history::WORK];
@@ -197,5 +149,5 @@ fn merge_within(most: usize, g: &[u64], h: &[u64]) -> Merged
 pub fn merge(limit: u8, g: &[u64], h: &[u64]) -> Merged
     ensures { result ≡ answer.merged (min limit capacity) g.now h.now }
 {
-    merge_within(smaller(limit as usize, words::CAPACITY), g, h)
+    merge_within((limit as usize).min(words::CAPACITY), g, h)
 }

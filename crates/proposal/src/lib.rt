@@ -8,22 +8,15 @@ ghost use Rattle.proposal.specs.Code.Work.{Begins};
 
 use history::History;
 
-// The smaller of two numbers.
-fn smaller(a: usize, b: usize) -> usize
-    ensures { result ≡ min a b }
-{
-    if a < b { a } else { b }
-}
-
 // The history of a site's report, as the part of the words that it is; an empty part where the site has not reported.
 fn report<'a>(words: &'a [u64], counts: &'a [u8], reported: u16, site: u8) -> &'a [u64]
     ensures { result.now ≡ spec.report words.now counts.now reported site }
 {
-    let known = roster::contains(reported, site);
-    if !known {
-        return &words[..0];
+    if roster::contains(reported, site) {
+        table::row(words, counts, site as usize)
+    } else {
+        &words[..0]
     }
-    table::row(words, counts, site as usize)
 }
 
 // The longer of two reports' histories, the first of two equally long ones.
@@ -59,10 +52,7 @@ fn gather<'a>(
     ensures { Begins (length work.old) work.new result (spec.filled_to (length work.old) n (spec.report words.now counts.now reported) (take count work.old)) }
 {
     let mut len = count;
-    let mut next: u8 = 0;
-    while next < n {
-        let site = next;
-        next += 1;
+    for site in 0..n {
         len = merge::append(work, len, report(words, counts, reported, site));
     }
     len
@@ -100,7 +90,7 @@ pub fn propose<'a>(
 ) -> History
     ensures { result ≡ stored (spec.proposal (min limit capacity) n (spec.report proven.now proven_counts.now reported) (spec.report held.now held_counts.now reported) pending.now) }
 {
-    let most = smaller(limit as usize, words::CAPACITY);
+    let most = (limit as usize).min(words::CAPACITY);
     let best = longest(proven, proven_counts, reported, n);
     let mut work = [0u64; words::CAPACITY];
     let all = assemble(
@@ -121,15 +111,11 @@ fn keep(dst: &mut [u64], pending: &[u64], h: &[u64]) -> usize
     ensures { (result ≤ length dst.new) × (take result dst.new ≡ take (length dst.old) (spec.remaining pending.now h.now)) }
 {
     let mut n: usize = 0;
-    let mut i: usize = 0;
-    while i < pending.len() {
+    for &c in pending {
         if dst.len() <= n {
-            return n;
+            break;
         }
-        let c = pending[i];
-        i += 1;
-        let done = merge::holds(h, c);
-        if !done {
+        if !merge::holds(h, c) {
             dst[n] = c;
             n += 1;
         }

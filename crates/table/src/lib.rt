@@ -20,10 +20,7 @@ pub struct Table {
 pub fn row<'a>(words: &'a [u64], counts: &'a [u8], site: usize) -> &'a [u64]
     ensures { result.now ≡ spec.row words.now counts.now site }
 {
-    if counts.len() <= site {
-        return &words[..0];
-    }
-    if words.len() / words::CAPACITY <= site {
+    if counts.len() <= site || words.len() / words::CAPACITY <= site {
         return &words[..0];
     }
     let n = counts[site] as usize;
@@ -39,17 +36,11 @@ pub fn row<'a>(words: &'a [u64], counts: &'a [u8], site: usize) -> &'a [u64]
 pub fn store(words: &mut [u64], counts: &mut [u8], site: usize, h: &[u64])
     ensures { spec.table_of words.new counts.new ≡ spec.stored_in words.old counts.old site h.now }
 {
-    if counts.len() < Table::SITES {
-        return;
-    }
-    if words.len() < words::CAPACITY * Table::SITES {
-        return;
-    }
-    if Table::SITES <= site {
+    if counts.len() < Table::SITES || words.len() < words::CAPACITY * Table::SITES {
         return;
     }
     let len = h.len();
-    if words::CAPACITY < len {
+    if Table::SITES <= site || words::CAPACITY < len {
         return;
     }
     counts[site] = len as u8;
@@ -81,15 +72,7 @@ fn row_valid<'a>(limit: u8, words: &'a [u64], counts: &'a [u8], site: usize, n: 
 pub fn rows_valid<'a>(limit: u8, words: &'a [u64], counts: &'a [u8], n: u8) -> bool
     ensures { result ≡ all_to sites (spec.valid_row limit n words.now counts.now) }
 {
-    let mut i: usize = 0;
-    while i < Table::SITES {
-        let good = row_valid(limit, words, counts, i, n);
-        if !good {
-            return false;
-        }
-        i += 1;
-    }
-    true
+    (0..Table::SITES).all(|i| row_valid(limit, words, counts, i, n))
 }
 
 impl Table {

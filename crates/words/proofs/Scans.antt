@@ -1,56 +1,65 @@
--- One turn of each loop over lists of words, and what it leaves at its end.
-use mathlib.Core.Path.{◌≡◌, refl, ap}
-use mathlib.Core.Bool.{true, false, and-false}
-use mathlib.Core.List.{List, [], ◌∷◌, append-nil}
-use Prim.Native.Nat.{ℕ, suc, ◌+◌, ◌-◌, ◌≤◌, ◌<◌}
-use native.Mathlib.Omega.{arith}
-use native.Mathlib.Numerals.{add-one}
-use borrow.Author.Tests.{eq-eqb, ne_eqb}
-use lib.Dec.{eqb}
-use lib.ListN.{length, take, drop, get_or, set, length-set, drop_of_length-le}
-use lib.Seq.{take-suc, take_all, append_snoc, take-suc-set}
-use Rattle.basics.specs.Lists.{drop_next}
-use Rattle.words.specs.Words.{equal, cleared}
+-- What the library's methods on lists of words answer, by the definitions of this crate.
+use Rattle.std.specs.Prelude.{◌≡◌, refl, Bool, true, false, ◌&&◌, List, [], ◌∷◌, ◌++◌, ℕ, suc, ◌+◌, ◌-◌, ◌≤◌, ◌<◌, cond, eqb, length, get_or, take, drop, replicate}
+use Rattle.std.specs.List.{zip, prefix_len}
+use Rattle.std.specs.Cmp.Lexicographic.{pointwise}
+use Rattle.std.proofs.Common.{ap, sym, ◌∙◌, arith, one-add, eqb-true, eq-eqb, length-append, length-take, length-drop, append-nil}
+use Rattle.std.proofs.lemmas.List.{drop_all}
+use Rattle.std.proofs.Math.Bool.{true≢false}
+use Rattle.std.proofs.Math.Seq.{take_at}
+use borrow.Rule.Slice.PartMut.{put_mid}
+use Rattle.words.specs.Words.{equal, Common, padded, cleared}
+use Rattle.words.specs.WordsLaws.{filled}
 
--- ---- equality
+-- ---- comparing
 
-pub equal_sizes : (g h : List ℕ) → (length g ≡ length h → ⊥) → equal g h ≡ false
+pub equal_pointwise : (g h : List ℕ) → equal g h ≡ pointwise eqb g h
 unfolding equal
-equal_sizes [] [] n = absurd (n refl)
-equal_sizes [] (d ∷ h) n = refl
-equal_sizes (c ∷ g) [] n = refl
-equal_sizes (c ∷ g) (d ∷ h) n = rw (equal_sizes g h (λ e. n (ap suc e)), and-false (eqb c d))
+equal_pointwise [] [] = refl
+equal_pointwise [] (d ∷ h) = refl
+equal_pointwise (c ∷ g) [] = refl
+equal_pointwise (c ∷ g) (d ∷ h) = ap (λ b. eqb c d && b) (equal_pointwise g h)
 
-module _ (g h : List ℕ) (i : ℕ) (p : i < length g) (q : i < length h) where
-  pub equal_stop : (get_or g i 0 ≡ get_or h i 0 → ⊥) → equal (drop i g) (drop i h) ≡ false
-  unfolding equal
-  equal_stop n = rw (drop_next g i p, drop_next h i q, ne_eqb _ _ n)
+-- how many pairs of two lists are of equal words, from the first pair on
+abbrev pub matched : List ℕ → List ℕ → ℕ
+matched h g = prefix_len (λ p. eqb p.0 p.1) (zip h g)
 
-  pub equal_more : get_or g i 0 ≡ get_or h i 0 → equal (drop i g) (drop i h) ≡ equal (drop (i + 1) g) (drop (i + 1) h)
-  unfolding equal
-  equal_more e = rw (drop_next g i p, drop_next h i q, eq-eqb _ _ e)
+common_more : (c d : ℕ) (h g : List ℕ) (n : ℕ) → c ≡ d → Common h g n → Common (c ∷ h) (d ∷ g) (suc n)
+common_more c d h g n e s =
+    record {
+      first = omega (arith, s.first);
+      second = omega (arith, s.second);
+      same = rw (e, s.same);
+      differ = λ p q. s.differ (omega arith) (omega arith);
+    }
 
-pub equal_end : (g h : List ℕ) (i : ℕ) → length g ≤ i → length h ≤ i → equal (drop i g) (drop i h) ≡ true
-unfolding equal
-equal_end g h i p q = rw (drop_of_length-le g p, drop_of_length-le h q)
+common_none : (h g : List ℕ) → (0 < length h → 0 < length g → get_or h 0 0 ≡ get_or g 0 0 → ⊥) → Common h g 0
+common_none h g n = record { first = omega arith; second = omega arith; same = refl; differ = n }
 
--- ---- copying and clearing
+pub matched_common : (h g : List ℕ) → Common h g (matched h g)
+matched_common [] g = common_none [] g (λ p q e. omega arith)
+matched_common (c ∷ h) [] = common_none (c ∷ h) [] (λ p q e. omega arith)
+matched_common (c ∷ h) (d ∷ g) = go (eqb c d) refl (matched_common h g)
+  where
+    go : (b : Bool) → eqb c d ≡ b → Common h g (matched h g) → Common (c ∷ h) (d ∷ g) (cond b (1 + matched h g) 0)
+    go true e s = rw one-add (common_more c d h g (matched h g) (eqb-true c d e) s)
+    go false e s = common_none (c ∷ h) (d ∷ g) (λ p q f. true≢false (sym (eq-eqb c d f) ∙ e))
 
--- the first words are the same after a copy of one more, and in two lists after one more that is the same
-pub copied_more : (s l : List ℕ) (k : ℕ) → k < length s → k < length l → take k s ≡ take k l → take (k + 1) (set s k (get_or l k 0)) ≡ take (k + 1) l
-copied_more s l k p q e = rw (add-one, take-suc-set s k _ p, take-suc l k 0 q, e)
+-- ---- filling
 
-pub common_more : (h g : List ℕ) (k : ℕ) → k < length h → k < length g → get_or h k 0 ≡ get_or g k 0 → take k h ≡ take k g → take (k + 1) h ≡ take (k + 1) g
-common_more h g k p q c e = rw (add-one, take-suc h k 0 p, take-suc g k 0 q, c, e)
-
-pub cleared_more : (s : List ℕ) (k : ℕ) → k < length s → cleared (set s k 0) (k + 1) ≡ cleared s k
+-- the list after `xs[m..].fill(0)`
+zeroed : (xs z : List ℕ) (m : ℕ) → m ≤ length xs → z ≡ replicate (length (take (length xs - m) (drop m xs))) 0 → put_mid m (length xs - m) xs z ≡ cleared xs m
 unfolding cleared
-cleared_more s k p =
-    let e : length s - k ≡ suc (length s - (k + 1)) = omega arith in
-    rw (length-set, e, add-one, take-suc-set s k 0 p, append_snoc)
+zeroed xs z m p e =
+    let size : length (take (length xs - m) (drop m xs)) ≡ length xs - m = rw (length-take, length-drop) (omega arith) in
+    let end : drop (length xs - m) (drop m xs) ≡ [] = drop_all (length xs - m) (drop m xs) (rw length-drop (omega arith)) in
+    rw (e, size, end, append-nil)
 
-pub cleared_end : (s : List ℕ) (k : ℕ) → length s ≤ k → cleared s k ≡ s
-unfolding cleared
-cleared_end s k p =
-    let e : length s - k ≡ 0 = omega arith in
-    rw (e, take_all k s p) (append-nil s)
+-- the list d after `d[..k].copy_from_slice(fit)` and `d[k..].fill(0)`, with k the length of fit
+pub fill_after : (d s fit copied z : List ℕ) → fit ≡ take (length d) s → copied ≡ fit
+    → let xs = copied ++ drop (length fit) d in
+    z ≡ replicate (length (take (length xs - length fit) (drop (length fit) xs))) 0 → put_mid (length fit) (length xs - length fit) xs z ≡ padded (length d) s
+fill_after d s fit copied z f c e =
+    let xs = copied ++ drop (length fit) d in
+    let short : length fit ≤ length d = rw f (rw length-take (omega arith)) in
+    let size : length xs ≡ length d = rw (c, length-append, length-drop) (omega arith) in
+    zeroed xs z (length fit) (omega arith) e ∙ filled xs s fit (length d) size f (rw c (take_at fit _ _ refl))

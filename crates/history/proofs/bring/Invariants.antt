@@ -1,5 +1,4 @@
 -- `history::bring` meets its contract: the loop keeps that the first i commands of g stand in front, and that the test and the result go on from there.
-use Prim.Native.Nat.{◌-◌}
 use lib.ListN.{length}
 use Rattle.history.specs.History.{extends}
 use Rattle.history.specs.Front.{fronted}
@@ -8,6 +7,3 @@ use Rattle.history.proofs.bring.Given as goal
 
 abbrev pub invariant-loop-i : goal.invariant-loop-i
 invariant-loop-i l = Bringing l.work l.g l.i (length l.initial.work) (extends l.initial.work l.g) (fronted l.initial.work l.g)
-
-abbrev pub decreases-loop-i : goal.decreases-loop-i
-decreases-loop-i l = length l.g - l.i

@@ -9,20 +9,19 @@ use Rattle.history.proofs.Turns.{bounded_next}
 use Rattle.history.proofs.is_canonical.Goals as goal
 
 pub loop-i-init : goal.loop-i-init
-loop-i-init c = (search rules, stays_canonical _, none)
+loop-i-init c = (stays_canonical _, none)
 
 pub place_below-requires : goal.place_below-requires
-place_below-requires c = (search rules, c.loop-i.invariant.2)
+place_below-requires c = (search rules, c.loop-i.invariant.1)
 
 pub returns-then-place_below-i : goal.returns-then-place_below-i
-returns-then-place_below-i c = sym (stays_stop _ c.loop-i.i (omega arith) (λ e. c.if-place_below-i.true (c.place_below.ensures.1 ∙ e))) ∙ c.loop-i.invariant.1
+returns-then-place_below-i c = sym (stays_stop _ c.loop-i.i (omega arith) (λ e. c.if-place_below-i.true (c.place_below.ensures.1 ∙ e))) ∙ c.loop-i.invariant.0
 
 pub loop-i-preserved : goal.loop-i-preserved
 loop-i-preserved c = (
-  search rules,
-  sym (stays_more _ c.loop-i.i (omega arith) (sym c.place_below.ensures.1 ∙ c.if-place_below-i.false)) ∙ c.loop-i.invariant.1,
-  bounded_next _ c.loop-i.i _ _ (omega arith) c.larger-largest.ensures.0 c.larger-largest.ensures.1 c.loop-i.invariant.2,
+  sym (stays_more _ c.loop-i.i (omega arith) (sym c.place_below.ensures.1 ∙ c.if-place_below-i.false)) ∙ c.loop-i.invariant.0,
+  bounded_next _ c.loop-i.i _ _ (omega arith) (omega arith) (omega arith) c.loop-i.invariant.1,
 )
 
 pub returns : goal.returns
-returns c = sym (stays_end _ c.loop-i.i (omega arith)) ∙ c.loop-i.invariant.1
+returns c = sym (stays_end _ c.loop-i.i (omega arith)) ∙ c.loop-i.invariant.0

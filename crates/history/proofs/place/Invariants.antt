@@ -5,7 +5,4 @@ use Rattle.history.specs.Code.Insertion.{walk}
 use Rattle.history.proofs.place.Given as goal
 
 abbrev pub invariant-loop-k : goal.invariant-loop-k
-invariant-loop-k l = (l.k ≤ l.n) × (l.at ≤ l.n) × (walk l.c l.h l.k l.at ≡ walk l.c l.h l.n l.n)
-
-abbrev pub decreases-loop-k : goal.decreases-loop-k
-decreases-loop-k l = l.k
+invariant-loop-k l = (l.at ≤ l.n) × (walk l.c l.h l.k l.at ≡ walk l.c l.h l.n l.n)

@@ -5,6 +5,7 @@ use lib.ListN.{length}
 use lib.Seq.{length-take-le}
 use mathlib.Core.List.{List}
 use Prim.Native.Nat.{ℕ}
+use Rattle.std.proofs.Math.Logic.{⊎_elim}
 use native.Mathlib.Omega.{arith}
 use Rattle.merge.specs.Merge.{appended_in}
 use Rattle.merge.specs.Merged.{answer_of}
@@ -12,11 +13,11 @@ use Rattle.merge.specs.AppendingLaws.{appended_in_work, take_appended, append_bo
 use Rattle.merge.proofs.Answers.{merged_long_left, merged_long_right, merged_union}
 use Rattle.merge.proofs.merge_within.Goals as goal
 
-pub returns-then-not-short_g : goal.returns-then-not-short_g
-returns-then-not-short_g c = c.full.ensures ∙ sym (merged_long_left _ _ _ (lt-leb _ _ c.if-not-short_g.true))
-
-pub returns-then-not-short_h : goal.returns-then-not-short_h
-returns-then-not-short_h c = c.full-then-not-short_h.ensures ∙ sym (merged_long_right _ _ _ (lt-leb _ _ c.if-not-short_h.true))
+pub returns-then-g-most : goal.returns-then-g-most
+returns-then-g-most c = let most = c.args.most in
+    let g = c.args.g.now in
+    let h = c.args.h.now in
+    c.full.ensures ∙ sym (⊎_elim (λ p. merged_long_left most g h (lt-leb (length g) most p)) (λ p. merged_long_right most g h (lt-leb (length h) most p.1)) c.then-g-most.either)
 
 pub slice_bounds-work-end : goal.slice_bounds-work-end
 slice_bounds-work-end c = let given = c.args in
@@ -32,8 +33,8 @@ slice_bounds-settle-end c = let given = c.args in
 
 pub returns : goal.returns
 returns c = let given = c.args in
-    let if1 = c.if-not-short_g in
-    let if2 = c.if-not-short_h in
+    let if1 = c.if-g-most in
+    let if2 = c.if-h-most in
     let fill-call = c.fill in
     let append-call = c.append-n in
     let settle-call = c.settle in

@@ -12,15 +12,15 @@ use Rattle.merge.specs.MergeLaws.{length_appended}
 use Rattle.merge.specs.AppendingLaws.{overflows_in_work}
 use Rattle.merge.proofs.overflows.Goals as goal
 
-pub returns-then-h-room : goal.returns-then-h-room
+pub returns-then-h-most : goal.returns-then-h-most
 unfolding overflows
-returns-then-h-room c = let given = c.args in
-    sym (le-ltb (min given.limit 32) (length (appended given.g.now given.h.now)) (omega (arith, length_appended given.g.now given.h.now, c.smaller-most.ensures)))
+returns-then-h-most c = let given = c.args in
+    sym (le-ltb (min given.limit 32) (length (appended given.g.now given.h.now)) (omega (arith, length_appended given.g.now given.h.now, c.min-most.ensures)))
 
 pub returns : goal.returns
 returns c = let given = c.args in
     let most = min given.limit 32 in
     let g = given.g.now in
     let h = given.h.now in
-    rw (c.smaller-most.ensures, c.append-n.ensures.0)
+    rw (c.min-most.ensures, c.append-n.ensures.0)
     (ap (λ (b : List ℕ). ltb most (length (appended_in b (length g) h))) c.fill.ensures ∙ overflows_in_work most g h (omega arith))

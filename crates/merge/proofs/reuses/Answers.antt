@@ -1,18 +1,13 @@
--- `merge::reuses` meets its contract: the loop keeps that the answer for all of h is the answer for what is left of it.
-use native.Mathlib.Omega.{arith}
-use mathlib.Core.Path.{sym, refl, ◌∙◌}
-use borrow.Author.Rules.{rules}
-use Rattle.merge.proofs.Scans.{reuses_stop, reuses_more, reuses_end}
+-- `merge::reuses` meets its contract: the chain asks `differs` of each command, which is the definition.
+use Rattle.std.proofs.Common.{rules, sym, ◌∙◌}
+use Rattle.std.proofs.lemmas.Iterator.{YieldsList-from_slice}
+use Rattle.std.proofs.lemmas.Iterator.Search.{any_from_yields_List}
+use borrow.Author.Tests.{tests}
+use Rattle.merge.specs.Appending.{differs}
+use Rattle.merge.proofs.Scans.{reuses_any}
 use Rattle.merge.proofs.reuses.Goals as goal
 
-pub loop-i-init : goal.loop-i-init
-loop-i-init c = (search rules, refl)
-
-pub returns-then-reused : goal.returns-then-reused
-returns-then-reused c = sym (reuses_stop _ c.loop-i.i _ (omega arith) (sym c.differs-reused.ensures ∙ c.if-reused.true)) ∙ c.loop-i.invariant.1
-
-pub loop-i-preserved : goal.loop-i-preserved
-loop-i-preserved c = (search rules, sym (reuses_more _ c.loop-i.i _ (omega arith) (sym c.differs-reused.ensures ∙ c.if-reused.false)) ∙ c.loop-i.invariant.1)
-
 pub returns : goal.returns
-returns c = sym (reuses_end _ c.loop-i.i _ (omega arith)) ∙ c.loop-i.invariant.1
+returns c = let g = c.args.g.now in
+    let h = c.args.h.now in
+    any_from_yields_List (differs g) _ _ _ c.any.ensures.ran (YieldsList-from_slice h cc) (λ x b q k. search (rules, tests)) ∙ sym (reuses_any g h)

@@ -8,21 +8,21 @@ use Rattle.history.specs.Words.{stored}
 use Rattle.merge.proofs.Answers.{answer_split, answer_full, answer_found}
 use Rattle.merge.proofs.settle.Goals as goal
 
-pub returns-then-not-extends : goal.returns-then-not-extends
-returns-then-not-extends c = let bring-call = c.bring-extends in
-    let if1 = c.if-not-extends in
+pub returns-then-not-bring : goal.returns-then-not-bring
+returns-then-not-bring c = let bring-call = c.bring in
+    let if1 = c.if-not-bring in
     c.split.ensures ∙ sym (answer_split _ _ _ (sym bring-call.ensures.0 ∙ if1.true))
 
-pub returns-then-not-fits : goal.returns-then-not-fits
-returns-then-not-fits c = let bring-call = c.bring-extends in
-    let if1 = c.if-not-extends in
-    let if2 = c.if-not-fits in
+pub returns-then-work-most : goal.returns-then-work-most
+returns-then-work-most c = let bring-call = c.bring in
+    let if1 = c.if-not-bring in
+    let if2 = c.if-work-most in
     c.full.ensures ∙ sym (answer_full _ _ _ bring-call.new.work (sym bring-call.ensures.0 ∙ if1.false) bring-call.auto.work (lt-leb _ _ if2.true))
 
 pub returns : goal.returns
-returns c = let bring-call = c.bring-extends in
-    let if1 = c.if-not-extends in
-    let if2 = c.if-not-fits in
+returns c = let bring-call = c.bring in
+    let if1 = c.if-not-bring in
+    let if2 = c.if-work-most in
     let put-in-order-call = c.put_in_order in
     answer_found _ _ _ bring-call.new.work c.of.result (sym bring-call.ensures.0 ∙ if1.false) bring-call.auto.work (le-leb _ _ if2.false)
     (c.of.ensures ∙ ap stored (put-in-order-call.ensures ∙ ap canonical bring-call.ensures.1 ∙ canonical_unique (fronted_equivalent _ _)))

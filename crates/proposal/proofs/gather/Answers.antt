@@ -3,7 +3,6 @@ use Prim.Native.Nat.{ℕ}
 use native.Mathlib.Omega.{arith}
 use native.Mathlib.Numerals.{add-one}
 use mathlib.Core.Path.{◌≡◌, subst}
-use borrow.Author.Rules.{rules}
 use lib.ListN.{length, take}
 use Rattle.proposal.specs.Proposal.{report, filled_to}
 use Rattle.proposal.specs.Code.Work.{Begins}
@@ -11,27 +10,22 @@ use Rattle.proposal.proofs.ProposalLaws.{filled_to_zero, filled_to_suc}
 use Rattle.proposal.proofs.Turns.{gather_start, gather_more}
 use Rattle.proposal.proofs.gather.Goals as goal
 
-pub loop-next-init : goal.loop-next-init
-loop-next-init c = let given = c.args in (
-  search rules,
-  rw (filled_to_zero (length given.work.now) (report given.words.now given.counts.now given.reported) (take given.count given.work.now))
-      (gather_start given.work.now given.count c.requires),
-)
+pub loop-site-init : goal.loop-site-init
+loop-site-init c = let given = c.args in
+    rw (filled_to_zero (length given.work.now) (report given.words.now given.counts.now given.reported) (take given.count given.work.now))
+    (gather_start given.work.now given.count c.requires)
 
-pub loop-next-preserved : goal.loop-next-preserved
-loop-next-preserved c = let given = c.args in
-    let turn = c.loop-next in
-    let report-call = c.report in
+pub loop-site-preserved : goal.loop-site-preserved
+loop-site-preserved c = let given = c.args in
+    let turn = c.loop-site in
     let append-call = c.append-len in
-    let reports = report given.words.now given.counts.now given.reported in (
-      search rules,
-      rw (add-one, filled_to_suc (length given.work.now) turn.next reports (take given.count given.work.now), ← report-call.ensures)
-          (gather_more turn.invariant.1 report-call.result.now append-call.result append-call.new.buf append-call.ensures.0 append-call.ensures.1 append-call.auto.buf),
-    )
+    let reports = report given.words.now given.counts.now given.reported in
+    rw (add-one, filled_to_suc (length given.work.now) turn.site reports (take given.count given.work.now), ← c.report.ensures)
+    (gather_more turn.invariant c.report.result.now append-call.result append-call.new.buf append-call.ensures.0 append-call.ensures.1 append-call.auto.buf)
 
 pub returns : goal.returns
 returns c = let given = c.args in
-    let turn = c.loop-next in
-    let end : turn.next ≡ given.n = omega arith in
+    let turn = c.loop-site in
+    let end : turn.site ≡ given.n = omega arith in
     subst (λ (k : ℕ). Begins (length given.work.now) turn.work turn.len (filled_to (length given.work.now) k (report given.words.now given.counts.now given.reported) (take given.count given.work.now)))
-    end turn.invariant.1
+    end turn.invariant

@@ -10,7 +10,7 @@ use Rattle.proposal.proofs.Turns.{part_bound, begins_more, assembled_of, order_g
 use Rattle.proposal.proofs.propose.Goals as goal
 
 pub slice_bounds-assemble-end : goal.slice_bounds-assemble-end
-slice_bounds-assemble-end c = sym (length-take-le _ _ (omega (arith, c.smaller-most.ensures)))
+slice_bounds-assemble-end c = sym (length-take-le _ _ (omega (arith, c.min-most.ensures)))
 
 pub slice_bounds-work-end-2 : goal.slice_bounds-work-end-2
 slice_bounds-work-end-2 c = (begins_more c.assemble-all.ensures _).short
@@ -36,5 +36,5 @@ returns c = let given = c.args in
     ∙ ap stored
     (order_gathered limit given.n proven held pending
     (begins_more (assembled_of limit given.n proven held pending c.longest-best.result.now c.longest-best.ensures c.assemble-all.ensures
-    (length-take-le _ _ (omega (arith, c.smaller-most.ensures)) ∙ c.smaller-most.ensures)) _)
+    (length-take-le _ _ (omega (arith, c.min-most.ensures)) ∙ c.min-most.ensures)) _)
     c.put_in_order.new.h c.put_in_order.ensures)

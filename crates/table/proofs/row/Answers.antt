@@ -7,13 +7,16 @@ use Rattle.history.specs.Words.{capacity}
 use Rattle.table.specs.TableLaws.{row_past, row_short, row_over, row_is}
 use borrow.Author.Rules.{rules}
 use Rattle.table.proofs.row.Goals as goal
+use Rattle.table.proofs.row.Goals.{then-counts-site-via-then-counts-site, then-counts-site-via-else-counts-site+then-words-site}
 
 pub returns-then-counts-site : goal.returns-then-counts-site
-returns-then-counts-site c = sym (row_past _ _ _ c.if-counts-site.true)
-
-pub returns-then-words-site : goal.returns-then-words-site
-returns-then-words-site c = let given = c.args in
-    sym (row_short _ _ given.site (omega arith))
+returns-then-counts-site c = let words = c.args.words.now in
+    let counts = c.args.counts.now in
+    let site = c.args.site in
+    elim c.then-counts-site.branch [
+      | then-counts-site-via-then-counts-site w ↦ sym (row_past words counts site w.if-counts-site.true)
+      | then-counts-site-via-else-counts-site+then-words-site w ↦ sym (row_short words counts site (omega arith))
+    ]
 
 pub overflow_cast-n : goal.overflow_cast-n
 overflow_cast-n c = let given = c.args in

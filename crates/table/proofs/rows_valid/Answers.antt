@@ -1,22 +1,14 @@
--- `table::rows_valid` meets its contract: the loop keeps that all rows passed are right, so one that is not decides, and at the end all are right.
-use mathlib.Core.Path.{◌≡◌, sym, ◌∙◌}
-use native.Mathlib.Omega.{arith}
-use borrow.Author.Rules.{rules}
-use Rattle.roster.specs.SitesLaws.{all_zero_lem, all_hit, all_stop}
-use Rattle.table.specs.Table.{sites}
+-- `table::rows_valid` meets its contract: the chain asks `row_valid` of each row, which is the definition.
+use Rattle.std.proofs.Common.{rules, sym, refl, ◌∙◌}
+use Rattle.std.proofs.lemmas.Iterator.{YieldsList-from_range}
+use Rattle.std.proofs.lemmas.Iterator.Search.{all_from_yields_List}
+use borrow.Author.Tests.{tests}
+use Rattle.table.specs.Table.{valid_row}
+use Rattle.table.proofs.Ranges.{all_range}
 use Rattle.table.proofs.rows_valid.Goals as goal
 
-pub loop-i-init : goal.loop-i-init
-loop-i-init c = (search rules, all_zero_lem _)
-
-pub returns-then-not-good : goal.returns-then-not-good
-returns-then-not-good c = let turn = c.loop-i in
-    sym (all_stop _ _ turn.i (search rules) (sym c.row_valid-good.ensures ∙ c.if-not-good.true))
-
-pub loop-i-preserved : goal.loop-i-preserved
-loop-i-preserved c = let turn = c.loop-i in
-    (search rules, all_hit _ _ turn.invariant.1 (sym c.row_valid-good.ensures ∙ c.if-not-good.false))
-
 pub returns : goal.returns
-returns c = let e : c.loop-i.i ≡ sites = omega arith in
-    sym (rw e at c.loop-i.invariant.1)
+returns c =
+    all_from_yields_List (valid_row c.args.limit c.args.n c.args.words.now c.args.counts.now) _ _ _ c.all.ensures.ran (YieldsList-from_range 0 16 16 refl refl)
+    (λ x b q k. search (rules, tests))
+    ∙ sym (all_range _ 16)

@@ -1,21 +1,23 @@
--- `words::common` meets its contract: the loop keeps that the first i words of both are the same.
-use native.Mathlib.Omega.{arith}
-use mathlib.Core.Path.{refl}
-use borrow.Author.Rules.{rules}
-use Rattle.words.proofs.Scans.{common_more}
+-- `words::common` meets its contract: it counts the first pairs that are of equal words.
+use Rattle.std.specs.Prelude.{◌≡◌, eqb}
+use Rattle.std.specs.List.{zip}
+use Rattle.std.proofs.Common.{rules, ◌∙◌}
+use Rattle.std.proofs.lemmas.Iterator.{YieldsList-from_slice, YieldsList-from_zip}
+use Rattle.std.proofs.lemmas.Iterator.Consumers.{YieldsList-at, count_from_yields_List}
+use Rattle.std.proofs.lemmas.Iterator.Search.{YieldsList-from_take_while}
+use Rattle.std.proofs.lemmas.List.Folds.{length-prefix_len}
+use borrow.Author.Tests.{tests}
+use Rattle.words.proofs.Scans.{matched, matched_common}
 use Rattle.words.proofs.common.Goals as goal
 
-pub loop-i-init : goal.loop-i-init
-loop-i-init c = (search rules, search rules, refl)
-
-pub returns-then-h-i : goal.returns-then-h-i
-returns-then-h-i c = record { first = c.loop-i.invariant.0; second = c.loop-i.invariant.1; same = c.loop-i.invariant.2; differ = λ p q e. omega arith }
-
-pub returns-then-h-i-2 : goal.returns-then-h-i-2
-returns-then-h-i-2 c = record { first = c.loop-i.invariant.0; second = c.loop-i.invariant.1; same = c.loop-i.invariant.2; differ = λ p q e. c.if-h-i-2.true e }
-
-pub loop-i-preserved : goal.loop-i-preserved
-loop-i-preserved c = (search rules, search rules, common_more _ _ c.loop-i.i (omega arith) (omega arith) c.if-h-i-2.false c.loop-i.invariant.2)
-
 pub returns : goal.returns
-returns c = record { first = c.loop-i.invariant.0; second = c.loop-i.invariant.1; same = c.loop-i.invariant.2; differ = λ p q e. omega arith }
+returns c = let h = c.args.h.now in
+    let g = c.args.g.now in
+    let counted : c.count.result ≡ matched h g =
+    count_from_yields_List c.take_while.result c.count.result c.count.ensures.ran
+    (YieldsList-from_take_while _ (λ p. eqb p.0 p.1)
+    (YieldsList-at c.take_while.ensures.source
+    (YieldsList-from_zip (YieldsList-at c.zip.ensures.first (YieldsList-from_slice h cc)) (YieldsList-from_slice g cc)))
+    c.take_while.ensures.closure c.take_while.ensures.done (λ x b q k. search (rules, tests)))
+    ∙ length-prefix_len _ (zip h g) in
+    rw counted (matched_common h g)

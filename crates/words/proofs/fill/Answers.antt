@@ -1,12 +1,6 @@
 -- `words::fill` meets its contract: as many words as fit are copied, and the rest is cleared.
-use mathlib.Core.Path.{ap, ◌∙◌}
-use native.Mathlib.Omega.{arith}
-use lib.ListN.{length, length-take}
-use Rattle.words.specs.WordsLaws.{filled}
+use Rattle.words.proofs.Scans.{fill_after}
 use Rattle.words.proofs.fill.Goals as goal
 
-pub copy-requires : goal.copy-requires
-copy-requires c = omega (arith, simp length-take at (ap length c.first-fit.ensures))
-
 pub returns : goal.returns
-returns c = c.clear.ensures ∙ filled _ _ _ _ c.copy.ensures.0 c.first-fit.ensures c.copy.ensures.1
+returns c = fill_after c.args.dst.now c.args.src.now c.first-fit.result.now c.copy_from_slice.new.self c.fill.new.self c.first-fit.ensures c.copy_from_slice.ensures.after (c.fill.ensures.after (λ y h. h))
