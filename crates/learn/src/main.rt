@@ -68,7 +68,7 @@ fn write(rt: &(impl Print + Eprint), failed: bool, bytes: &[u8]) -> bool {
 fn flushed(rt: &(impl Print + Eprint), o: Output, out: &[u8]) -> Output {
     Output {
         used: 0,
-        failed: write(rt, o.failed, lines::first(out, o.used)),
+        failed: write(rt, o.failed, words::first(out, o.used)),
     }
 }
 
@@ -92,7 +92,7 @@ fn answered(
     let ready = roomy(rt, o, out);
     let text = lines::answer_text(number, supporters);
     Output {
-        used: put(out, ready.used, lines::first(&text.bytes, text.len)),
+        used: put(out, ready.used, words::first(&text.bytes, text.len)),
         failed: ready.failed,
     }
 }
@@ -114,11 +114,11 @@ fn chunk(
         len = lines::push(line, len, *b);
         if *b == LINE_FEED {
             if started {
-                let o = learner::step(roster, state, lines::first(line, len));
+                let o = learner::step(roster, state, words::first(line, len));
                 state = o.state;
                 output = answered(rt, output, o.answer.number(), o.supporters, out);
             } else {
-                roster = lines::roster_of(lines::first(line, len));
+                roster = lines::roster_of(words::first(line, len));
                 started = true;
             }
             len = 0;
@@ -177,7 +177,7 @@ fn run(
 // Answers an unfinished line, unless it is the first one: the bytes after the last line feed are no line, and are answered as that.
 fn finish(rt: &(impl Print + Eprint), s: Stream, line: &[u8], out: &mut [u8]) {
     if s.started && 0 < s.len {
-        let o = learner::step(s.roster, s.state, lines::first(line, s.len));
+        let o = learner::step(s.roster, s.state, words::first(line, s.len));
         let output = answered(rt, s.output, o.answer.number(), o.supporters, out);
         flushed(rt, output, out);
     }

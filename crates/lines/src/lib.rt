@@ -34,13 +34,6 @@ pub struct Pulled {
     pub whole: bool,
 }
 
-// The first n bytes, or all of them if there are fewer.
-pub fn first<'a>(bytes: &'a [u8], n: usize) -> &'a [u8]
-    ensures { result.now ≡ take n bytes.now }
-{
-    if n <= bytes.len() { &bytes[..n] } else { bytes }
-}
-
 // Whether a character is a lower-case hex digit.
 fn is_digit(c: u8) -> bool
     ensures { result ≡ hex.is_digit c }
@@ -198,5 +191,5 @@ pub fn put_answer(out: &mut [u8], used: usize, number: u8, supporters: u8) -> us
 {
     let text = answer_text(number, supporters);
     let bytes: &[u8] = &text.bytes;
-    put(out, used, first(bytes, text.len))
+    put(out, used, words::first(bytes, text.len))
 }

@@ -97,7 +97,7 @@ fn for_view_change(line: &[u8]) -> bool {
 // The site after a line for the view change.
 fn change(rt: &impl Print, s: Site, line: &[u8], out: &mut [u8]) -> io::Result<Site> {
     let o = viewchange::step(s.roster, s.own, s.views, line, out);
-    say(rt, o.answer.number(), lines::first(out, o.sent))?;
+    say(rt, o.answer.number(), words::first(out, o.sent))?;
     Ok(Site {
         views: o.views,
         ..s
@@ -170,7 +170,7 @@ fn step_acceptor(s: Site, line: &[u8], out: &mut [u8]) -> acceptor::Outcome {
 // The site after a line for the acceptor.
 fn accept(rt: &impl Print, s: Site, line: &[u8], out: &mut [u8]) -> io::Result<Site> {
     let o = step_acceptor(s, line, out);
-    say(rt, o.answer.number(), lines::first(out, o.sent))?;
+    say(rt, o.answer.number(), words::first(out, o.sent))?;
     Ok(Site {
         state: o.state,
         ..s
@@ -179,7 +179,7 @@ fn accept(rt: &impl Print, s: Site, line: &[u8], out: &mut [u8]) -> io::Result<S
 
 // The site after a call of its leader.
 fn led(rt: &impl Print, s: Site, o: leader::Outcome, out: &[u8]) -> io::Result<Site> {
-    say(rt, o.answer.number(), lines::first(out, o.sent))?;
+    say(rt, o.answer.number(), words::first(out, o.sent))?;
     Ok(Site {
         leading: o.state,
         ..s
@@ -350,7 +350,7 @@ fn chunk(
     for b in bytes {
         len = lines::push(line, len, *b);
         if *b == LINE_FEED {
-            site = hear(rt, site, lines::first(line, len), out)?;
+            site = hear(rt, site, words::first(line, len), out)?;
             len = 0;
         }
     }
@@ -400,7 +400,7 @@ fn run(
 
 // Hands in the bytes after the last line feed, if there are any; they are no line.
 fn finish(rt: &impl Print, s: Stream, line: &[u8], out: &mut [u8]) -> io::Result<()> {
-    hear(rt, s.site, lines::first(line, s.len), out)?;
+    hear(rt, s.site, words::first(line, s.len), out)?;
     Ok(())
 }
 

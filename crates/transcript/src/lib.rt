@@ -69,12 +69,12 @@ pub fn feed(
         let whole = p.whole;
         if whole {
             if started {
-                let o = learner::step(roster, state, lines::first(line, len));
+                let o = learner::step(roster, state, words::first(line, len));
                 let answer = o.answer;
                 state = o.state;
                 end = lines::put_answer(out, end, answer.number(), o.supporters);
             } else {
-                roster = lines::roster_of(lines::first(line, len));
+                roster = lines::roster_of(words::first(line, len));
                 started = true;
             }
             len = 0;
@@ -106,7 +106,7 @@ pub fn finish(s: Stream, line: &[u8], out: &mut [u8], used: usize) -> usize
     if none {
         return used;
     }
-    let o = learner::step(s.roster, s.state, lines::first(line, len));
+    let o = learner::step(s.roster, s.state, words::first(line, len));
     let answer = o.answer;
     lines::put_answer(out, used, answer.number(), o.supporters)
 }
