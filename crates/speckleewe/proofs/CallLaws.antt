@@ -18,7 +18,6 @@ use Rattle.learner.proofs.RunLaws.{run_append, outcomes_append}
 use Rattle.speckleewe.specs.declared.LearnerReply.{LearnerReply}
 use Rattle.speckleewe.specs.declared.Reply.{Reply}
 use Rattle.speckleewe.specs.declared.Site.{Site}
-use Rattle.speckleewe.specs.declared.ViewChangeOutcome.{ViewChangeOutcome}
 use Rattle.speckleewe.specs.CallLaws.{listed, hosted, suspicion_listed, Next, NextLine}
 use Rattle.speckleewe.specs.Outcomes.{Left, fresh_site, acceptor_call, views_left, view_change_call, suspicion_call, learner_call}
 
@@ -59,8 +58,8 @@ module _ (r : Roster) (own : ℕ) (before : List Call) where
   pub view_change_next : (line out : List ℕ) {a : Reply} {v : ViewRecord} {buffer : List ℕ} → view_change_call s.views r own line out (views_left a v) buffer
       → Next r own before (to_view_change line out) a (record { views = v; acceptor = s.state }) buffer
   view_change_next line out h =
-      next (to_view_change line out) (ap (λ (o : ViewChangeOutcome). o.answer) h.0)
-      (ap (λ (o : ViewChangeOutcome). listed (record { views = o.views; acceptor = s.state })) h.0) (ap (λ (o : ViewChangeOutcome). o.sent) h.0) h.1
+      next (to_view_change line out) (ap (λ (l : Left ViewRecord). l.reply.answer) h.0)
+      (ap (λ (l : Left ViewRecord). listed (record { views = l.after; acceptor = s.state })) h.0) (ap (λ (l : Left ViewRecord). l.reply.sent) h.0) h.1
 
   -- `speckleewe_suspicion`
   pub suspicion_next : (view : View) (out : List ℕ) {a : Reply} {v : ViewRecord} {buffer : List ℕ} → suspicion_call s.views r own view out (views_left a v) buffer

@@ -1,27 +1,33 @@
 -- What a call by a host gives: the roles' outcomes with the number of the answer in its place, and every byte of the buffer. What a lent record holds
 -- when the call is over stands in the outcome beside the answer.
-use Rattle.std.specs.Prelude.{◌≡◌, List, ℕ}
+use Rattle.std.specs.Prelude.{◌≡◌, List, ℕ, Result, Ok, Err}
 use Rattle.roster.specs.declared.Roster.{Roster}
 use Rattle.roster.specs.declared.View.{View}
-use Rattle.refusal.specs.Refusal.{answer_number}
+use Rattle.refusal.specs.declared.Refusal.{Refusal}
+use Rattle.refusal.specs.Refusal.{number, answer_number}
 use Rattle.site.specs.declared.ViewRecord.{ViewRecord}
 use Rattle.site.specs.Site as views
-use Rattle.acceptor.specs.declared.Outcome as accepting
-use Rattle.acceptor.specs.declared.Marks.{Marks}
+use Rattle.site.specs.Reply.{Outcome}
+use Rattle.acceptor.specs.declared.State as accepting_state
 use Rattle.acceptor.specs.Acceptor as acceptor
-use Rattle.acceptor.specs.Parts.{state_of}
-use Rattle.leader.specs.declared.Outcome as leading
 use Rattle.leader.specs.declared.State as leading_state
 use Rattle.leader.specs.Leader as leader
 use Rattle.learner.specs.declared.State.{State}
 use Rattle.learner.specs.Learner as learner
-use Rattle.viewchange.specs.declared.Outcome as changing
 use Rattle.viewchange.specs.ViewChange as change
 use Rattle.speckleewe.specs.declared.LearnerReply.{LearnerReply}
 use Rattle.speckleewe.specs.declared.Opening.{Opening}
 use Rattle.speckleewe.specs.declared.Reply.{Reply}
 use Rattle.speckleewe.specs.declared.Site.{Site}
-use Rattle.speckleewe.specs.declared.ViewChangeOutcome.{ViewChangeOutcome}
+
+-- a result in numbers: "An accepted frame answers 0", a refused one its refusal's number, and nothing is sent or counted
+abbrev pub reply : Result ℕ Refusal → Reply
+reply (Ok n) = record { answer = 0; sent = n }
+reply (Err e) = record { answer = number e; sent = 0 }
+
+abbrev pub learner_reply : Result ℕ Refusal → LearnerReply
+learner_reply (Ok k) = record { answer = 0; supporters = k }
+learner_reply (Err e) = record { answer = number e; supporters = 0 }
 
 -- what a call leaves: the answer in numbers and the record after it
 pub record Left (R : Type 0) : Type 0 where
@@ -31,18 +37,18 @@ pub record Left (R : Type 0) : Type 0 where
 -- ---- the view change
 
 -- a role's outcome with the answer's number; and an answer with the record that its call left
-abbrev pub view_change_outcome : changing.Outcome → ViewChangeOutcome
-view_change_outcome o = record { answer = answer_number o.answer; sent = o.sent; views = o.views }
+abbrev pub view_change_outcome : Outcome ViewRecord → Left ViewRecord
+view_change_outcome o = record { reply = record { answer = answer_number o.answer; sent = o.sent }; after = o.state }
 
-abbrev pub views_left : Reply → ViewRecord → ViewChangeOutcome
-views_left r v = record { answer = r.answer; sent = r.sent; views = v }
+abbrev pub views_left : Reply → ViewRecord → Left ViewRecord
+views_left r v = record { reply = r; after = v }
 
 -- the record before, the roster, the own number, the line and the buffer before; the outcome and the buffer after
-abbrev pub view_change_call : ViewRecord → Roster → ℕ → List ℕ → List ℕ → ViewChangeOutcome → List ℕ → Type 0
+abbrev pub view_change_call : ViewRecord → Roster → ℕ → List ℕ → List ℕ → Left ViewRecord → List ℕ → Type 0
 view_change_call v r own line out o buffer = (o ≡ view_change_outcome (change.returned r own v line out)) × (buffer ≡ change.output r own v line out)
 
 -- "The host's own suspicion enters as a SUSPICION from itself."
-abbrev pub suspicion_call : ViewRecord → Roster → ℕ → View → List ℕ → ViewChangeOutcome → List ℕ → Type 0
+abbrev pub suspicion_call : ViewRecord → Roster → ℕ → View → List ℕ → Left ViewRecord → List ℕ → Type 0
 suspicion_call v r own view = view_change_call v r own (change.own_suspicion own view)
 
 -- ---- a site's acceptor: the view-change record stays
@@ -50,12 +56,8 @@ suspicion_call v r own view = view_change_call v r own (change.own_suspicion own
 abbrev pub fresh_site : Site
 fresh_site = record { views = views.fresh; acceptor = acceptor.fresh }
 
--- a site of its parts, in the record's order: the view-change record, the marks, and the counts and words of what is held, proven and verified
-abbrev pub site_of : ViewRecord → Marks → ℕ → List ℕ → ℕ → List ℕ → List ℕ → List ℕ → Site
-site_of v k heldCount held provenCount proven counts words = record { views = v; acceptor = state_of k held heldCount proven provenCount words counts }
-
 -- what the role's outcome leaves
-abbrev pub site_given : ViewRecord → accepting.Outcome → Left Site
+abbrev pub site_given : ViewRecord → Outcome accepting_state.State → Left Site
 site_given v o = record { reply = record { answer = answer_number o.answer; sent = o.sent }; after = record { views = v; acceptor = o.state } }
 
 -- the site before, the roster, the own number, the line and the buffer before; the answer in numbers, the site and the buffer after
@@ -66,7 +68,7 @@ acceptor_call s r own line out a t buffer =
 
 -- ---- a leader: its step, and the opening of a ballot
 
-abbrev pub leader_given : leading.Outcome → Left leading_state.State
+abbrev pub leader_given : Outcome leading_state.State → Left leading_state.State
 leader_given o = record { reply = record { answer = answer_number o.answer; sent = o.sent }; after = o.state }
 
 abbrev pub leader_call : leading_state.State → Roster → ℕ → List ℕ → List ℕ → Reply → leading_state.State → List ℕ → Type 0

@@ -1,9 +1,0 @@
--- `speckleewe::acceptor_in_parts` meets its contract: the step's answer with its number, and the parts and the buffer as the step leaves them.
-use mathlib.Core.Path.{ap, ◌∙◌}
-use Rattle.speckleewe.specs.Outcomes.{site_given}
-use Rattle.speckleewe.proofs.Replies.{same_number}
-use Rattle.speckleewe.proofs.acceptor_in_parts.Goals as goal
-
-pub returns : goal.returns
-returns c = let call = c.step_in_place-o in
-    (same_number c.number.ensures ∙ ap (site_given _) call.ensures.0, call.ensures.1)
