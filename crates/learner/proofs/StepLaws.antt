@@ -20,7 +20,7 @@ use Rattle.history.specs.ExtensionLaws.{extends_refl, extends_sound}
 use Rattle.history.specs.ValidLaws.{ValidHistory, valid_parts, parts_valid, not_improper, proper_some}
 use Rattle.history.specs.Words.{limit, commands, valid_stored}
 use Rattle.history.specs.WordsLaws.{commands_stored, stored_valid, valid_stored_history, valid_stored_length}
-use Rattle.merge.specs.declared.Merged.{Merged}
+use Rattle.merge.specs.Merged.{Merged}
 use Rattle.merge.specs.Merged.{merged}
 use Rattle.merge.specs.MergeLaws.{is_merge_valid}
 use Rattle.merge.specs.MergedLaws.{Answers, is_split, is_full, is_found, merged_answers}

@@ -20,7 +20,11 @@ use Rattle.history.specs.History.{extends}
 use Rattle.history.specs.ExtensionLaws.{extends_complete}
 use Rattle.history.specs.Words.{limit, extends_within}
 use Rattle.history.specs.WordsLaws.{extends_within_lem}
-use Rattle.merge.specs.declared.Merged.{Merged}
+use Rattle.history.specs.declared.History.{History}
+use Rattle.merge.specs.declared.Unmerged.{Unmerged}
+use Rattle.merge.specs.declared.Unmerged.TheVariants as Unmerged
+use Rattle.merge.specs.Merged.{Merged, given}
+use Rattle.std.specs.Prelude.{Ok, Err}
 use Rattle.table.specs.declared.Table.{Table}
 use Rattle.table.specs.Table.{row_of, stored_at, stored_in}
 use Rattle.table.specs.TableLaws.{Sized, row_stored_other, stored_in_lem}
@@ -28,7 +32,7 @@ use Rattle.content.specs.ContentLaws as content
 use Rattle.refusal.specs.declared.Refusal.{Refusal}
 use Rattle.refusal.specs.declared.Refusal.TheVariants.{Config, Sender, Contradiction}
 use Rattle.refusal.specs.Refusal.{Answer}
-use Rattle.refusal.specs.Refusal.{Accepted}
+use Rattle.refusal.specs.Refusal.{Accepted, Refused}
 use Rattle.refusal.specs.Refusal.{is_refused}
 use Rattle.refusal.specs.Rules.{Rule, ◌gives◌, judged, answer}
 use Rattle.refusal.specs.AnswerLaws.{stops, judged_refused, judged_accepted, answer_none}
@@ -56,7 +60,7 @@ use Rattle.learner.specs.Learner.{
   step,
 }
 use Rattle.learner.proofs.StepLaws.{config_sound, vote_enters, vote_stored, vote_stays}
-use Rattle.learner.specs.Code.Vote.{checks, Passed, concluded, stands}
+use Rattle.learner.specs.Code.Vote.{checks, Passed, concluded, stands, refusal_of}
 
 -- the code's test of extension, of a list of at most 64 commands
 pub extends_is : (h g : List ℕ) (b : Bool) → length h ≤ 64 → b ≡ extends_within 64 h g → extends h g ≡ b
@@ -90,6 +94,17 @@ module _ {t : Table} (z : Sized t) (site : ℕ) (h : List ℕ) (p : Passed t.wor
   pub standing_is : (r : Roster) → count_to r.n (stands t.words t.counts site h) ≡ supporters r (with_vote t site h) h
   unfolding supporters
   standing_is r = count_cong r.n _ _ (λ i l. stands_is i)
+
+-- where the claim has no merge, its rules answer the refusal for that
+pub unmerged_answer : (u : Unmerged) → Refused (refusal_of u) ≡ answer (merge_rules (given (Err u)))
+unfolding judged
+unmerged_answer Unmerged.Split = refl
+unmerged_answer Unmerged.Full = refl
+
+-- and where it has one, they refuse nothing
+pub merged_answer : (l : History) → Accepted ≡ answer (merge_rules (given (Ok l)))
+unfolding judged
+merged_answer l = refl
 
 -- its outcome: m is the merge, x what its checks answer, and b tells whether that refuses
 module _ (r : Roster) (s : State) (z : Sized s.entries) (site : ℕ) (h : List ℕ) (p : Passed s.entries.words s.entries.counts site h) (k : ℕ)

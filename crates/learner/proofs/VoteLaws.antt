@@ -12,7 +12,7 @@ use Rattle.history.specs.History.{Least, extends}
 use Rattle.history.specs.ValidLaws.{not_improper, proper_some}
 use Rattle.history.specs.Words.{limit, commands}
 use Rattle.history.specs.WordsLaws.{commands_stored, valid_stored_length}
-use Rattle.merge.specs.declared.Merged.{Merged}
+use Rattle.merge.specs.Merged.{Merged}
 use Rattle.merge.specs.MergedLaws.{Answers, is_split, is_full, is_found, merged_answers}
 use Rattle.table.specs.declared.Table.{Table}
 use Rattle.table.specs.Table.{sites, row_of}

@@ -8,7 +8,7 @@ use Rattle.roster.specs.Sites.{count_to}
 use Rattle.history.specs.declared.History.{History as Stored}
 use Rattle.history.specs.History.{extends}
 use Rattle.history.specs.Words.{limit, commands, valid_stored, stored}
-use Rattle.merge.specs.declared.Merged.{Merged}
+use Rattle.merge.specs.Merged.{Merged}
 use Rattle.merge.specs.Merged.{merged}
 use Rattle.table.specs.declared.Table.{Table}
 use Rattle.table.specs.Table.{row_of, stored_at, empty_table, valid_table}

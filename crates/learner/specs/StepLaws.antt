@@ -8,7 +8,7 @@ use Rattle.command.specs.Command.{wrong}
 use Rattle.history.specs.History.{Extends, improper}
 use Rattle.history.specs.ValidLaws.{ValidHistory}
 use Rattle.history.specs.Words.{limit, commands, valid_stored}
-use Rattle.merge.specs.declared.Merged.{Merged}
+use Rattle.merge.specs.Merged.{Merged}
 use Rattle.table.specs.Table.{row_of, valid_table}
 use Rattle.table.specs.TableLaws.{Sized}
 use Rattle.content.specs.Content.{contradicts}

@@ -8,12 +8,13 @@ ghost use Rattle.history.specs.Words.{union_capacity, history_of};
 ghost use Rattle.table.specs.TableLaws.{Sized};
 ghost use Rattle.refusal.specs.Rules.{answer};
 ghost use Rattle.frame.specs.Format.{frame_with, reading_with};
+ghost use Rattle.merge.specs.Merged.{given};
 ghost use Rattle.learner.specs.Learner as spec;
 ghost use Rattle.learner.specs.Code.Vote as code;
 
 use frame::Heading;
 use history::History;
-use merge::Merged;
+use merge::Unmerged;
 use refusal::{Answer, Refusal, given};
 use roster::Roster;
 use table::Table;
@@ -97,16 +98,22 @@ fn supporters(entries: &Table, n: u8, site: u8, h: &[u64]) -> u8
 }
 
 // The merge of what is learned and the claims: of h, if its k supporters are N-f or more.
-fn merge_claims(r: Roster, k: u8, learned: &History, h: &[u64]) -> Merged
-    ensures { result ≡ spec.merging learned.now (cond (leb (quorum r) k) (h.now ∷ []) []) }
+fn merge_claims(r: Roster, k: u8, learned: &History, h: &[u64]) -> Result<History, Unmerged>
+    ensures { given result ≡ spec.merging learned.now (cond (leb (quorum r) k) (h.now ∷ []) []) }
 {
     if r.quorum() <= k as u32 {
         return merge::merge(words::LIMIT, learned.commands(), h);
     }
-    Merged {
-        split: false,
-        full: false,
-        history: *learned,
+    Ok(*learned)
+}
+
+// The refusal of a vote whose claim has no merge.
+fn refusal_of(unmerged: Unmerged) -> Refusal
+    ensures { result ≡ code.refusal_of unmerged }
+{
+    match unmerged {
+        Unmerged::Split => Refusal::Split,
+        Unmerged::Full => Refusal::Full,
     }
 }
 
@@ -127,13 +134,10 @@ fn conclude(r: Roster, s: &mut State, site: u8, h: &[u64]) -> Result<u8, Refusal
     ensures { spec.outcome result s.new ≡ code.concluded r s.old site h.now }
 {
     let k = supporters(&s.entries, r.n, site, h);
-    let m = merge_claims(r, k, &s.learned, h);
-    given(
-        m.split,
-        Refusal::Split,
-        given(m.full, Refusal::Full, Ok(())),
-    )?;
-    s.learned = m.history;
+    s.learned = match merge_claims(r, k, &s.learned, h) {
+        Ok(merged) => merged,
+        Err(unmerged) => return Err(refusal_of(unmerged)),
+    };
     store(&mut s.entries, site, h);
     Ok(k)
 }

@@ -1,10 +1,18 @@
 -- What merging answers in code: the merge, that there is none, or that it is too long.
-use Rattle.std.specs.Prelude.{true, false, cond, ◌&&◌, List, [], ℕ, leb, length}
+use Rattle.std.specs.Prelude.{Bool, true, false, cond, ◌&&◌, List, [], ℕ, leb, length, Result, Ok, Err}
 use Rattle.std.proofs.Math.Option.{Option, none, some}
 use Rattle.history.specs.History.{extends, canonical}
 use Rattle.history.specs.Words.{stored}
-use Rattle.merge.specs.declared.Merged.{Merged}
+use Rattle.history.specs.declared.History.{History}
+use Rattle.merge.specs.declared.Unmerged.{Unmerged}
+use Rattle.merge.specs.declared.Unmerged.TheVariants.{Split, Full}
 use Rattle.merge.specs.Merge.{merge}
+
+-- what merging answers: that there is no common extension, that the merge is too long, or else the merge
+pub record Merged : Type 0 where
+  pub split : Bool
+  pub full : Bool
+  pub history : History
 
 -- no common extension exists
 abbrev pub split : Merged
@@ -17,6 +25,12 @@ full = record { split = false; full = true; history = stored [] }
 -- the merge
 abbrev pub found : List ℕ → Merged
 found m = record { split = false; full = false; history = stored m }
+
+-- what a call that answers a merge, or why there is none, has answered
+abbrev pub given : Result History Unmerged → Merged
+given (Ok h) = record { split = false; full = false; history = h }
+given (Err Split) = split
+given (Err Full) = full
 
 -- the answer for a merge, or for none, under a limit on its length
 unfoldable pub answered : ℕ → Option (List ℕ) → Merged

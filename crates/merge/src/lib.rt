@@ -9,12 +9,11 @@ ghost use Rattle.merge.specs.Merged as answer;
 
 use history::History;
 
-// What merging answers: that there is no common extension, that the merge is too long, or else the merge.
-#[derive(Clone, Copy)]
-pub struct Merged {
-    pub split: bool,
-    pub full: bool,
-    pub history: History,
+// Why two histories have no merge: no common extension exists, or it is too long.
+#[derive(Clone, Copy, PartialEq, Eq)]
+pub enum Unmerged {
+    Split,
+    Full,
 }
 
 // Appends to the first count words of buf the commands of more whose proposer and serial are not there yet, up to the end of buf.
@@ -80,61 +79,27 @@ pub fn overflows(limit: u8, g: &[u64], h: &[u64]) -> bool
     most < n
 }
 
-impl Merged {
-    // No common extension exists.
-    fn split() -> Merged
-        ensures { result ≡ answer.split }
-    {
-        Merged {
-            split: true,
-            full: false,
-            history: History {
-                count: 0,
-                words: [0u64; 32],
-            },
-        }
-    }
-
-    // The merge is too long.
-    fn full() -> Merged
-        ensures { result ≡ answer.full }
-    {
-        Merged {
-            split: false,
-            full: true,
-            history: History {
-                count: 0,
-                words: [0u64; 32],
-            },
-        }
-    }
-}
-
 // The answer for a union `work` that is the merge if it extends h, under a limit. Leaves `work` reordered.
-fn settle(most: usize, work: &mut [u64], h: &[u64]) -> Merged
-    ensures { result ≡ answer.answer_of most work.old h.now }
+fn settle(most: usize, work: &mut [u64], h: &[u64]) -> Result<History, Unmerged>
+    ensures { answer.given result ≡ answer.answer_of most work.old h.now }
 {
     if !history::bring(work, h) {
-        return Merged::split();
+        return Err(Unmerged::Split);
     }
     if work.len() > most {
-        return Merged::full();
+        return Err(Unmerged::Full);
     }
     history::put_in_order(work);
-    Merged {
-        split: false,
-        full: false,
-        history: History::of(work),
-    }
+    Ok(History::of(work))
 }
 
 // The merge of g and h under a limit of at most 32.
-fn merge_within(most: usize, g: &[u64], h: &[u64]) -> Merged
+fn merge_within(most: usize, g: &[u64], h: &[u64]) -> Result<History, Unmerged>
     requires { most ≤ capacity }
-    ensures { result ≡ answer.merged most g.now h.now }
+    ensures { answer.given result ≡ answer.merged most g.now h.now }
 {
     if g.len() > most || h.len() > most {
-        return Merged::full();
+        return Err(Unmerged::Full);
     }
     let mut work = [0u64; history::WORK];
     history::fill(&mut work, g);
@@ -143,11 +108,11 @@ fn merge_within(most: usize, g: &[u64], h: &[u64]) -> Merged
     settle(most, &mut work[..n], h)
 }
 
-// The merge of g and h: that there is none, that it is over the limit, or the merge. A limit over 32 counts as 32. A g or h over the limit is
+// The merge of g and h, or that there is none, or that it is over the limit. A limit over 32 counts as 32. A g or h over the limit is
 // answered as too long. Where h repeats a proposer and serial, so is no history, the answer may be that there is none though a common extension
 // exists.
-pub fn merge(limit: u8, g: &[u64], h: &[u64]) -> Merged
-    ensures { result ≡ answer.merged (min limit capacity) g.now h.now }
+pub fn merge(limit: u8, g: &[u64], h: &[u64]) -> Result<History, Unmerged>
+    ensures { answer.given result ≡ answer.merged (min limit capacity) g.now h.now }
 {
     merge_within((limit as usize).min(words::CAPACITY), g, h)
 }

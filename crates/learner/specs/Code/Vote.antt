@@ -5,7 +5,10 @@ use Rattle.roster.specs.declared.Roster.{Roster}
 use Rattle.history.specs.History.{extends}
 use Rattle.history.specs.Words.{limit}
 use Rattle.table.specs.Table.{sites, row, row_of}
-use Rattle.refusal.specs.declared.Refusal.TheVariants.{Config, Form}
+use Rattle.merge.specs.declared.Unmerged.{Unmerged}
+use Rattle.merge.specs.declared.Unmerged.TheVariants as Unmerged
+use Rattle.refusal.specs.declared.Refusal.{Refusal}
+use Rattle.refusal.specs.declared.Refusal.TheVariants.{Config, Form, Split, Full}
 use Rattle.refusal.specs.Rules.{Rule, ◌gives◌, judged}
 use Rattle.frame.specs.Format.{Reading}
 use Rattle.content.specs.Content.{contradicts}
@@ -27,6 +30,11 @@ pub record Passed (words counts : List ℕ) (site : ℕ) (h : List ℕ) : Type 0
 -- what it gives: the checks of the merge, and the effect
 abbrev pub concluded : Roster → State → ℕ → List ℕ → Outcome
 concluded r s site h = judged (refuse s) (accepted r s site h) (merge_rules (merge_of r (with_vote s.entries site h) s h))
+
+-- the refusal of a vote whose claim has no merge
+abbrev pub refusal_of : Unmerged → Refusal
+refusal_of Unmerged.Split = Split
+refusal_of Unmerged.Full = Full
 
 -- whether site i stands behind h once `site` has voted for it
 abbrev pub stands : List ℕ → List ℕ → ℕ → List ℕ → ℕ → Bool

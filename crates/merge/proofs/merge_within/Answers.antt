@@ -17,7 +17,7 @@ pub returns-then-g-most : goal.returns-then-g-most
 returns-then-g-most c = let most = c.args.most in
     let g = c.args.g.now in
     let h = c.args.h.now in
-    c.full.ensures ∙ sym (⊎_elim (λ p. merged_long_left most g h (lt-leb (length g) most p)) (λ p. merged_long_right most g h (lt-leb (length h) most p.1)) c.then-g-most.either)
+    sym (⊎_elim (λ p. merged_long_left most g h (lt-leb (length g) most p)) (λ p. merged_long_right most g h (lt-leb (length h) most p.1)) c.then-g-most.either)
 
 pub slice_bounds-work-end : goal.slice_bounds-work-end
 slice_bounds-work-end c = let given = c.args in

@@ -11,13 +11,13 @@ use Rattle.merge.proofs.settle.Goals as goal
 pub returns-then-not-bring : goal.returns-then-not-bring
 returns-then-not-bring c = let bring-call = c.bring in
     let if1 = c.if-not-bring in
-    c.split.ensures ∙ sym (answer_split _ _ _ (sym bring-call.ensures.0 ∙ if1.true))
+    sym (answer_split _ _ _ (sym bring-call.ensures.0 ∙ if1.true))
 
 pub returns-then-work-most : goal.returns-then-work-most
 returns-then-work-most c = let bring-call = c.bring in
     let if1 = c.if-not-bring in
     let if2 = c.if-work-most in
-    c.full.ensures ∙ sym (answer_full _ _ _ bring-call.new.work (sym bring-call.ensures.0 ∙ if1.false) bring-call.auto.work (lt-leb _ _ if2.true))
+    sym (answer_full _ _ _ bring-call.new.work (sym bring-call.ensures.0 ∙ if1.false) bring-call.auto.work (lt-leb _ _ if2.true))
 
 pub returns : goal.returns
 returns c = let bring-call = c.bring in
