@@ -36,6 +36,8 @@ TOKEN = re.compile(r'[^\s(){}\[\];,`"λ]+')
 SIGNATURE = re.compile(r'^( *)(?:abbrev |unfoldable )?(?:pub )?([^\s:(){}|]+) :(?:\s|$)')
 PASSED = re.compile(r'\s*(use|pub use|unfoldable pub use|mod|pub mod|open|infix\w*|unfolding)\b')
 USE = re.compile(r"^\s*(?:ghost )?(?:unfoldable )?(?:pub )?use Rattle\.(\w+)\.(specs|proofs)\.([\w.+-]+?)(?:\.\{([^}]*)\}| as ([\w'-]+))?;?$", re.M)
+# what an attribute hands to the prover, as `using(crate::proofs::Marks::unmarked_absent)`
+HANDED = re.compile(r'\bcrate::(specs|proofs)::([\w:]+)::(\w+)')
 # what pages name of std
 STD = {'get_or', 'wrapping_sub'}
 # a clause of a function, by its word; it may have a name
@@ -177,7 +179,9 @@ def dead(cited):
     folder of one function's proof answers what the prover asks there."""
     used = set()
     for path in sources('*/src/*.rt'):
-        used.update(mentions(path, '\n'.join(bare(line) for line in lines_of(path))))
+        text = '\n'.join(bare(line) for line in lines_of(path))
+        used.update(mentions(path, text))
+        used.update(settle(path.parents[1] / folder / (module.replace('::', '/') + '.antt'), name) for folder, module, name in HANDED.findall(text))
     files = sources('*/specs/**/*.antt') + sources('*/proofs/**/*.antt')
     for path in files:
         for block in blocks(path):

@@ -1,7 +1,7 @@
 // Histories: the test for a repeated proposer and serial, canonical order, and extension.
 #![tactic(auto)]
 
-ghost use Rattle.std.specs.Prelude.{◌≡◌, min, true, ◌≤◌, ◌<◌, length, take, drop, get_or};
+ghost use Rattle.std.specs.Prelude.{◌≡◌, min, true, ◌≤◌, ◌<◌, length, take, get_or};
 ghost use Rattle.history.specs.History as spec;
 ghost use Rattle.history.specs.Code.Insertion as insertion;
 ghost use Rattle.history.specs.Front as front;
