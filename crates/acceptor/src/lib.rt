@@ -132,13 +132,12 @@ impl State {
     pub fn fresh() -> State
         ensures { result ≡ spec.fresh }
     {
-        let none: [u64; 0] = [];
         State {
             ballot: Ballot(0),
             fast: 0,
             signed: 0,
-            held: History::of(&none),
-            proven: History::of(&none),
+            held: History::of(&[]),
+            proven: History::of(&[]),
             proven_ballot: Ballot(0),
             certificate: 0,
             verified: Table::empty(),

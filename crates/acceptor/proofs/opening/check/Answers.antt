@@ -11,9 +11,7 @@ returns c =
     let same : c.eq.result ≡ same_view c.args.head.view c.args.view = c.eq.ensures in
     let present : c.if-eq.stale ≡ (same_view c.args.head.view c.args.view && later_ballot c.args.head.ballot c.args.s.now.ballot) =
     elim c.if-eq.branch [
-      | then-eq v ↦
-          let later : v.gt.result ≡ later_ballot c.args.head.ballot c.args.s.now.ballot = search rules in
-          v.stale-is ∙ rw (sym same ∙ v.if-eq.true) later
+      | then-eq v ↦ v.stale-is ∙ rw (sym same ∙ v.if-eq.true) (search rules)
       | else-eq v ↦ v.stale-is ∙ rw (sym same ∙ v.if-eq.false) v.if-eq.false
     ] in
     rule _ _ c.given-2.ensures c.outsider-unknown.ensures (rule _ _ c.given.ensures (ap not present) no_rule)
