@@ -7,7 +7,6 @@ use Rattle.roster.specs.Roster.{quorum, leader_of}
 use Rattle.roster.specs.Counts.{same_view, same_ballot, later_ballot}
 use Rattle.roster.specs.Mask.{reaches, beyond}
 use Rattle.roster.specs.Sites.{mask_to}
-use Rattle.history.specs.declared.History.{History}
 use Rattle.history.specs.History.{canonical, equal, extends}
 use Rattle.history.specs.Words.{limit, commands, stored, valid_stored}
 use Rattle.merge.specs.Merge.{appended}
@@ -22,10 +21,8 @@ use Rattle.frame.specs.Format.{reading_of, malformed}
 use Rattle.site.specs.declared.ViewRecord.{ViewRecord}
 use Rattle.site.specs.Site.{seated, valid_record, is_set}
 use Rattle.site.specs.Message.{message}
-use Rattle.site.specs.Reply.{silent, sends, sends_if, Reply, refuse, accept, length_sent, buffer}
+use Rattle.site.specs.Reply.{silent, sends, sends_if, Reply, refuse, accept, Outcome, length_sent, buffer}
 use Rattle.acceptor.specs.declared.State.{State}
-use Rattle.acceptor.specs.declared.Marks.{Marks}
-use Rattle.acceptor.specs.declared.Outcome.{Outcome}
 
 -- ---- the state
 
@@ -36,28 +33,19 @@ held_of s = commands s.held
 abbrev pub proven_of : State → List ℕ
 proven_of s = commands s.proven
 
--- what a state has beside its histories and its table, and the state with these marks, what is held, what is proven and the table
-abbrev pub marks_of : State → Marks
-marks_of s = record { ballot = s.ballot; fast = s.fast; signed = s.signed; proven_ballot = s.proven_ballot; certificate = s.certificate }
-
-abbrev pub state_with : Marks → History → History → Table → State
-state_with k held proven verified =
-    record {
-      ballot = k.ballot;
-      fast = k.fast;
-      signed = k.signed;
-      held = held;
-      proven = proven;
-      proven_ballot = k.proven_ballot;
-      certificate = k.certificate;
-      verified = verified;
-    }
-
 -- "Fresh: all 0 and empty."
 abbrev pub fresh : State
 fresh =
-    state_with (record { ballot = record { 0 = 0 }; fast = 0; signed = 0; proven_ballot = record { 0 = 0 }; certificate = 0 }) (stored []) (stored [])
-    empty_table
+    record {
+      ballot = record { 0 = 0 };
+      fast = 0;
+      signed = 0;
+      held = stored [];
+      proven = stored [];
+      proven_ballot = record { 0 = 0 };
+      certificate = 0;
+      verified = empty_table;
+    }
 
 -- the last VERIFY of a frame's sender
 abbrev pub entry_of : State → Frame → List ℕ
@@ -94,15 +82,14 @@ not_leader r site view = leb r.n site || not (eqb site (leader_of r view))
 -- ---- P1A and FAST
 
 -- "view equal, ballot greater than its own, else STALE"
-abbrev pub opening_rules : Roster → View → Marks → Frame → List Rule
-opening_rules r view k m =
+abbrev pub opening_rules : Roster → View → State → Frame → List Rule
+opening_rules r view s m =
     not_leader r m.sender m.view gives Sender ∷
-    not (same_view m.view view && later_ballot m.ballot k.ballot) gives Stale ∷ []
+    not (same_view m.view view && later_ballot m.ballot s.ballot) gives Stale ∷ []
 
 -- "Takes the ballot, forgets the VERIFY table and that it signed."
 abbrev pub in_ballot : State → Ballot → ℕ → State
-in_ballot s ballot fast =
-    state_with (record { ballot = ballot; fast = fast; signed = 0; proven_ballot = s.proven_ballot; certificate = s.certificate }) s.held s.proven empty_table
+in_ballot s ballot fast = record s { ballot = ballot; fast = fast; signed = 0; verified = empty_table }
 
 -- P1B, with the proven history, its ballot and mask, and the held one
 abbrev pub p1b : ℕ → State → Ballot → Frame
@@ -119,9 +106,7 @@ abbrev pub verify : ℕ → ViewRecord → State → List ℕ → Frame
 verify own v s h = message 6 own v.view s.ballot (record { 0 = 0 }) 0 h []
 
 abbrev pub signing : ℕ → State → List ℕ → State
-signing own s h =
-    state_with (record { ballot = s.ballot; fast = s.fast; signed = 1; proven_ballot = s.proven_ballot; certificate = s.certificate }) (stored h)
-    s.proven (stored_at s.verified own h)
+signing own s h = record s { signed = 1; held = stored h; verified = stored_at s.verified own h }
 
 -- "It becomes held; answers VERIFY, which replaces its own entry but proves nothing yet."
 unfoldable pub sign : ℕ → ViewRecord → State → List ℕ → Reply State
@@ -130,32 +115,32 @@ sign own v s h = accept (signing own s h) (sends (verify own v s h))
 -- ---- P2A of h
 
 -- "view and ballot equal and classic, else STALE"
-abbrev pub order_heading : Roster → View → Marks → Frame → List Rule
-order_heading r view k m =
+abbrev pub order_heading : Roster → View → State → Frame → List Rule
+order_heading r view s m =
     not_leader r m.sender m.view gives Sender ∷
-    not (same_view m.view view && (same_ballot m.ballot k.ballot && eqb k.fast 0)) gives Stale ∷ []
+    not (same_view m.view view && (same_ballot m.ballot s.ballot && eqb s.fast 0)) gives Stale ∷ []
 
 -- "must extend the proven one and, if it signed in this ballot, the held one"
-unfoldable pub lags : ℕ → List ℕ → List ℕ → List ℕ → Bool
-lags signed held proven h = not (extends h proven) || (is_set signed && not (extends h held))
+unfoldable pub lags : State → List ℕ → Bool
+lags s h = not (extends h (proven_of s)) || (is_set s.signed && not (extends h (held_of s)))
 
-abbrev pub order_rules : Roster → View → Marks → List ℕ → List ℕ → Frame → List ℕ → List Rule
-order_rules r view k held proven m h = order_heading r view k m ++ (history_rules h ++ (lags k.signed held proven h gives Behind ∷ []))
+abbrev pub order_rules : Roster → View → State → Frame → List ℕ → List Rule
+order_rules r view s m h = order_heading r view s m ++ (history_rules h ++ (lags s h gives Behind ∷ []))
 
 -- ---- PROPOSE of h
 
 -- "PROPOSE instead: sender 0"; "ballot equal and fast, else STALE"
-abbrev pub propose_heading : Marks → Frame → List Rule
-propose_heading k m =
+abbrev pub propose_heading : State → Frame → List Rule
+propose_heading s m =
     eqb m.sender 0 gives Sender ∷
-    not (same_ballot m.ballot k.ballot && is_set k.fast) gives Stale ∷ []
+    not (same_ballot m.ballot s.ballot && is_set s.fast) gives Stale ∷ []
 
 -- "The held history must extend the proven one (BEHIND)"; REUSED, NOTHING and FULL against what is held
-abbrev pub propose_rules : Marks → List ℕ → List ℕ → Frame → List ℕ → List Rule
-propose_rules k held proven m h =
-    propose_heading k m
+abbrev pub propose_rules : State → Frame → List ℕ → List Rule
+propose_rules s m h =
+    propose_heading s m
     ++ (request_rules m.sender h
-    ++ (not (extends held proven) gives Behind ∷ append_rules limit held h))
+    ++ (not (extends (held_of s) (proven_of s)) gives Behind ∷ append_rules limit (held_of s) h))
 
 -- "Commands not held are appended, result canonical; answers VERIFY as above."
 unfoldable pub lengthened : List ℕ → List ℕ → List ℕ
@@ -164,13 +149,13 @@ lengthened held h = canonical (appended held h)
 -- ---- VERIFY of h
 
 -- "sender ≥ N"; "view and ballot equal"
-abbrev pub verify_heading : Roster → View → Marks → Frame → List Rule
-verify_heading r view k m =
+abbrev pub verify_heading : Roster → View → State → Frame → List Rule
+verify_heading r view s m =
     leb r.n m.sender gives Sender ∷
-    not (same_view m.view view && same_ballot m.ballot k.ballot) gives Stale ∷ []
+    not (same_view m.view view && same_ballot m.ballot s.ballot) gives Stale ∷ []
 
-abbrev pub verify_rules : Roster → View → Marks → List ℕ → Frame → List ℕ → List Rule
-verify_rules r view k entry m h = verify_heading r view k m ++ (history_rules h ++ (contradicts entry h gives Contradiction ∷ []))
+abbrev pub verify_rules : Roster → View → State → Frame → List ℕ → List Rule
+verify_rules r view s m h = verify_heading r view s m ++ (history_rules h ++ (contradicts (entry_of s m) h gives Contradiction ∷ []))
 
 -- whether an entry equals it, and the mask of those that do
 abbrev pub matches : Table → List ℕ → ℕ → Bool
@@ -180,20 +165,19 @@ unfoldable pub certificate_of : Roster → Table → List ℕ → ℕ
 certificate_of r t h = mask_to r.n (matches t h)
 
 -- "If stored and N-f entries equal it, and it extends the proven history, and it isn't already proven in this ballot"
-unfoldable pub convinces : Roster → Marks → List ℕ → ℕ → List ℕ → Bool
-convinces r k proven mask h =
-    reaches mask (quorum r) && (extends h proven && not (equal proven h && same_ballot k.proven_ballot k.ballot))
+unfoldable pub convinces : Roster → State → ℕ → List ℕ → Bool
+convinces r s mask h =
+    reaches mask (quorum r) && (extends h (proven_of s) && not (equal (proven_of s) h && same_ballot s.proven_ballot s.ballot))
 
 abbrev pub proves : Roster → State → Table → List ℕ → Bool
-proves r s t h = convinces r (marks_of s) (proven_of s) (certificate_of r t h) h
+proves r s t h = convinces r s (certificate_of r t h) h
 
 -- the state with the table, and that in which h is proven
 abbrev pub storing : State → Table → State
-storing s t = state_with (marks_of s) s.held s.proven t
+storing s t = record s { verified = t }
 
 abbrev pub proving : State → Table → ℕ → List ℕ → State
-proving s t mask h =
-    state_with (record { ballot = s.ballot; fast = s.fast; signed = s.signed; proven_ballot = s.ballot; certificate = mask }) s.held (stored h) t
+proving s t mask h = record s { proven = stored h; proven_ballot = s.ballot; certificate = mask; verified = t }
 
 -- P2B of h in the present ballot, with the mask of its certificate
 abbrev pub p2b : ℕ → State → ℕ → List ℕ → Frame
@@ -226,16 +210,16 @@ abbrev pub form : List ℕ → Bool
 form line = malformed limit line taken
 
 -- the checks of a frame of a kind
-abbrev pub frame_rules : Kind → Roster → View → Marks → List ℕ → List ℕ → List ℕ → Frame → List Rule
-frame_rules P1A r view k held proven entry m = opening_rules r view k m
-frame_rules FAST r view k held proven entry m = opening_rules r view k m
-frame_rules PROPOSE r view k held proven entry m = propose_rules k held proven m (carried m)
-frame_rules P2A r view k held proven entry m = order_rules r view k held proven m (carried m)
-frame_rules VERIFY r view k held proven entry m = verify_rules r view k entry m (carried m)
+abbrev pub frame_rules : Kind → Roster → View → State → Frame → List Rule
+frame_rules P1A r view s m = opening_rules r view s m
+frame_rules FAST r view s m = opening_rules r view s m
+frame_rules PROPOSE r view s m = propose_rules s m (carried m)
+frame_rules P2A r view s m = order_rules r view s m (carried m)
+frame_rules VERIFY r view s m = verify_rules r view s m (carried m)
 
 -- the checks of a frame in a state, and all checks of a line
 abbrev pub rules_in : Roster → ViewRecord → State → Frame → List Rule
-rules_in r v s m = frame_rules (kind_of m.kind) r v.view (marks_of s) (held_of s) (proven_of s) (entry_of s m) m
+rules_in r v s m = frame_rules (kind_of m.kind) r v.view s m
 
 abbrev pub rules : Roster → ℕ → ℕ → ViewRecord → State → List ℕ → List Rule
 rules r own room v s line = config r own room v s gives Config ∷ form line gives Form ∷ rules_in r v s (received line)
@@ -254,10 +238,10 @@ step r own room v s line =
     judged (refuse s) (accepted (kind_of (received line).kind) r own v s (received line)) (rules r own room v s line)
 
 -- of a call with this buffer lent to it: what it returns, and the buffer that it leaves
-abbrev pub outcome : Reply State → List ℕ → Outcome
+abbrev pub outcome : Reply State → List ℕ → Outcome State
 outcome o out = record { answer = o.answer; sent = length_sent o.sending out; state = o.state }
 
-abbrev pub returned : Roster → ℕ → ViewRecord → State → List ℕ → List ℕ → Outcome
+abbrev pub returned : Roster → ℕ → ViewRecord → State → List ℕ → List ℕ → Outcome State
 returned r own v s line out = outcome (step r own (length out) v s line) out
 
 abbrev pub output : Roster → ℕ → ViewRecord → State → List ℕ → List ℕ → List ℕ

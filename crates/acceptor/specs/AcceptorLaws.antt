@@ -38,7 +38,6 @@ use Rattle.acceptor.specs.Acceptor.{
   carried,
   held_of,
   proven_of,
-  marks_of,
   entry_of,
   config,
   form,
@@ -98,7 +97,7 @@ rules_follow r own room v s line = go (kind_in line)
         → follows in_order
         (config r own room v s gives Config ∷
         form line gives Form ∷
-        frame_rules k r v.view (marks_of s) (held_of s) (proven_of s) (entry_of s (received line)) (received line)) ≡ true
+        frame_rules k r v.view s (received line)) ≡ true
     go P1A = refl
     go FAST = refl
     go PROPOSE = refl

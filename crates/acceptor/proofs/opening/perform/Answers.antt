@@ -1,16 +1,19 @@
--- `acceptor::opening::perform` meets its contract: the table is emptied, the marks are those in the ballot, and the P1B goes out in a classic one.
-use Prim.Native.Nat.{◌≤◌}
-use native.Mathlib.Omega.{arith}
-use lib.ListN.{length, length-take}
+-- `acceptor::opening::perform` meets its contract: the state is the one in the ballot, and the P1B goes out in a classic one.
+use Rattle.std.proofs.Common.{rules, ◌≡◌}
 use lib.Seq.{take_all}
-use Rattle.acceptor.specs.Acceptor.{opening}
+use Rattle.acceptor.specs.Acceptor.{opening, held_of, proven_of}
+use Rattle.acceptor.proofs.Tests.{blank}
+use Rattle.acceptor.proofs.opening.perform.Goals.{then-fast, else-fast}
 use Rattle.acceptor.proofs.opening.perform.Goals as goal
 
 pub returns : goal.returns
 unfolding opening
-returns c = let g = c.first-g.result.now in
-    let h = c.first-h.result.now in
-    let short-g : length g ≤ 32 = rw (c.first-g.ensures, length-take) (omega arith) in
-    let short-h : length h ≤ 32 = rw (c.first-h.ensures, length-take) (omega arith) in
-    let handed = rw (take_all 32 g short-g, take_all 32 h short-h) at c.send-length.ensures in
-    (rw (c.in_ballot-now.ensures, c.flag.ensures, c.forget.ensures, ← c.first-h.ensures, ← c.first-g.ensures, handed.0), rw (← c.first-h.ensures, ← c.first-g.ensures) handed.1)
+returns c =
+    let s = c.args.s.now in
+    let zeros : c.default.result ≡ blank = search rules in
+    elim c.if-fast.branch [
+      | then-fast v ↦ (rw (v.sent-is, v.if-fast.true, c.clear.ensures), rw (v.out-is, v.if-fast.true))
+      | else-fast v ↦
+          let handed = rw (zeros, v.commands.ensures, v.commands-else-fast.ensures, take_all 32 (held_of s) c.requires.0, take_all 32 (proven_of s) c.requires.1) at v.send-sent.ensures in
+          (rw (v.sent-is, v.if-fast.false, c.clear.ensures, handed.0), rw (v.out-is, v.if-fast.false) handed.1)
+    ]

@@ -1,20 +1,20 @@
 -- `acceptor::order::lags` meets its contract: the proven history is asked first, and the held one if one was signed.
-use mathlib.Core.Path.{sym, ap, ◌∙◌}
-use mathlib.Core.Bool.{not}
+use Rattle.std.proofs.Common.{sym, ap}
+use Rattle.std.proofs.Math.Bool.{not}
 use Rattle.std.proofs.lemmas.Bool.{ne_eqb}
 use Rattle.acceptor.specs.Acceptor.{lags}
 use Rattle.acceptor.proofs.Tests.{extends_is}
 use Rattle.acceptor.proofs.order.lags.Goals as goal
 
-pub returns-then-not-ahead : goal.returns-then-not-ahead
+pub returns-then-not-extends : goal.returns-then-not-extends
 unfolding lags
-returns-then-not-ahead c = rw (extends_is c.args.h.now c.args.proven.now _ c.requires c.extends-ahead.ensures ∙ c.if-not-ahead.true)
+returns-then-not-extends c = rw (← c.commands.ensures, extends_is c.args.h.now c.commands.result.now _ c.requires c.extends.ensures, c.if-not-extends.true)
 
-pub returns-then-first : goal.returns-then-first
+pub returns-then-s-ne0 : goal.returns-then-s-ne0
 unfolding lags
-returns-then-first c = rw (extends_is c.args.h.now c.args.proven.now _ c.requires c.extends-ahead.ensures ∙ c.if-not-ahead.false, c.if-first.true)
+returns-then-s-ne0 c = rw (← c.commands.ensures, extends_is c.args.h.now c.commands.result.now _ c.requires c.extends.ensures, c.if-not-extends.false, ne_eqb _ _ c.if-s-ne0.true, ← c.commands-then-s-ne0.ensures)
+    (ap not (sym (extends_is c.args.h.now c.commands-then-s-ne0.result.now _ c.requires c.extends-then-s-ne0.ensures)))
 
-pub returns : goal.returns
+pub returns-else-s-ne0 : goal.returns-else-s-ne0
 unfolding lags
-returns c = rw (extends_is c.args.h.now c.args.proven.now _ c.requires c.extends-ahead.ensures ∙ c.if-not-ahead.false, ne_eqb _ _ c.if-first.false)
-    (ap not (sym (extends_is c.args.h.now c.args.held.now _ c.requires c.extends.ensures)))
+returns-else-s-ne0 c = rw (← c.commands.ensures, extends_is c.args.h.now c.commands.result.now _ c.requires c.extends.ensures, c.if-not-extends.false, c.if-s-ne0.false)

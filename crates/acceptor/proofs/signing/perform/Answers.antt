@@ -1,7 +1,13 @@
--- `acceptor::signing::perform` meets its contract: the three parts are those of the signed state, and the VERIFY is sent.
+-- `acceptor::signing::perform` meets its contract: the state is the signed one, and the VERIFY is sent whole, the history being within the capacity.
+use Rattle.std.proofs.Common.{rules, ◌≡◌}
+use lib.Seq.{take_all}
 use Rattle.acceptor.specs.Acceptor.{sign}
+use Rattle.acceptor.proofs.Tests.{blank}
 use Rattle.acceptor.proofs.signing.perform.Goals as goal
 
 pub returns : goal.returns
 unfolding sign
-returns c = (rw (c.having_signed-now.ensures, c.replace.ensures, c.enter.ensures, c.notify-sent.ensures.0), c.notify-sent.ensures.1)
+returns c =
+    let zeros : c.default.result ≡ blank = search rules in
+    let handed = rw (zeros, take_all 32 c.args.h.now c.requires) at c.send.ensures in
+    (rw (c.set.ensures, c.store.ensures, handed.0), handed.1)
