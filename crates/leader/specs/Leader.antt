@@ -23,10 +23,8 @@ use Rattle.frame.specs.Layout.{first, second}
 use Rattle.frame.specs.Format.{reading_of, malformed}
 use Rattle.site.specs.Site.{seated, is_set}
 use Rattle.site.specs.Message.{message}
-use Rattle.site.specs.Reply.{silent, sends, Reply, refuse, accept, sends_if, length_sent, buffer}
+use Rattle.site.specs.Reply.{silent, sends, Reply, refuse, accept, sends_if, Outcome, length_sent, buffer}
 use Rattle.leader.specs.declared.State.{State}
-use Rattle.leader.specs.declared.Marks.{Marks}
-use Rattle.leader.specs.declared.Outcome.{Outcome}
 
 -- ---- the frames that a leader takes
 
@@ -47,20 +45,22 @@ taken = 1048
 abbrev pub received : List ℕ → Frame
 received line = (reading_of limit line taken).frame
 
--- the pending commands as a list, what a state has beside its lists, and the state with these marks, pending commands and reports
+-- the pending commands as a list
 abbrev pub pending_of : State → List ℕ
 pending_of s = commands s.pending
 
-abbrev pub marks_of : State → Marks
-marks_of s = record { view = s.view; ballot = s.ballot; classic = s.classic; reported = s.reported }
-
-abbrev pub state_with : Marks → History → Table → Table → State
-state_with k pending proven held =
-    record { view = k.view; ballot = k.ballot; classic = k.classic; pending = pending; reported = k.reported; proven = proven; held = held }
-
 -- "fresh: 0, none, empty"
 abbrev pub fresh : State
-fresh = state_with (record { view = record { 0 = 0 }; ballot = record { 0 = 0 }; classic = 0; reported = 0 }) (stored []) empty_table empty_table
+fresh =
+    record {
+      view = record { 0 = 0 };
+      ballot = record { 0 = 0 };
+      classic = 0;
+      pending = stored [];
+      reported = 0;
+      proven = empty_table;
+      held = empty_table;
+    }
 
 -- ---- the refusals: "Checks run in this order; the first that applies is given."
 
@@ -81,12 +81,12 @@ abbrev pub form : List ℕ → Bool
 form line = malformed limit line taken
 
 -- LEADER "needs view mod N its own number and a view above its own (else STALE)"
-unfoldable pub leads : Roster → ℕ → Marks → View → Bool
-leads r own k view = eqb (leader_of r view) own && later_view view k.view
+unfoldable pub leads : Roster → ℕ → State → View → Bool
+leads r own s view = eqb (leader_of r view) own && later_view view s.view
 
 -- PROOF: "and N-f ones"
-abbrev pub leader_rules : Roster → ℕ → Marks → Frame → List Rule
-leader_rules r own k m = leb r.n m.sender gives Sender ∷ not (leads r own k m.view) gives Stale ∷ unproven m.mask r.n (quorum r) gives Proof ∷ []
+abbrev pub leader_rules : Roster → ℕ → State → Frame → List Rule
+leader_rules r own s m = leb r.n m.sender gives Sender ∷ not (leads r own s m.view) gives Stale ∷ unproven m.mask r.n (quorum r) gives Proof ∷ []
 
 -- SENDER: "PROPOSE instead: sender 0"
 abbrev pub propose_heading : Frame → List Rule
@@ -97,51 +97,53 @@ abbrev pub propose_rules : List ℕ → Frame → List ℕ → List Rule
 propose_rules pending m h = propose_heading m ++ (request_rules m.sender h ++ append_rules limit pending h)
 
 -- "P1B must be for the open classic ballot, the first from its site, and before N-f came, else STALE."
-unfoldable pub awaited : Roster → Marks → Ballot → ℕ → Bool
-awaited r k ballot site =
-    is_set k.classic && (same_ballot ballot k.ballot && (not (bit k.reported site) && not (reaches k.reported (quorum r))))
+unfoldable pub awaited : Roster → State → Ballot → ℕ → Bool
+awaited r s ballot site =
+    is_set s.classic && (same_ballot ballot s.ballot && (not (bit s.reported site) && not (reaches s.reported (quorum r))))
 
 -- "An empty proven history needs proven ballot 0 and mask 0; another needs N-f ones; else PROOF."
 unfoldable pub unfounded : Roster → ℕ → Ballot → ℕ → Bool
 unfounded r n provenBallot mask = cond (eqb n 0) (not (zero_ballot provenBallot && eqb mask 0)) (unproven mask r.n (quorum r))
 
-abbrev pub report_heading : Roster → Marks → Frame → List Rule
-report_heading r k m =
+abbrev pub report_heading : Roster → State → Frame → List Rule
+report_heading r s m =
     leb r.n m.sender gives Sender ∷
-    not (awaited r k m.ballot m.sender) gives Stale ∷
+    not (awaited r s m.ballot m.sender) gives Stale ∷
     unfounded r m.n m.proven_ballot m.mask gives Proof ∷ []
 
 -- P1B with the proven history g and the held one h
-abbrev pub p1b_rules : Roster → Marks → Frame → List ℕ → List ℕ → List Rule
-p1b_rules r k m g h = report_heading r k m ++ report_rules g h
+abbrev pub p1b_rules : Roster → State → Frame → List ℕ → List ℕ → List Rule
+p1b_rules r s m g h = report_heading r s m ++ report_rules g h
 
 -- the checks of a frame of a kind
-abbrev pub frame_rules : Kind → Roster → ℕ → Marks → List ℕ → Frame → List Rule
-frame_rules P1B r own k pending m = p1b_rules r k m (first m) (second m)
-frame_rules PROPOSE r own k pending m = propose_rules pending m (first m)
-frame_rules LEADER r own k pending m = leader_rules r own k m
+abbrev pub frame_rules : Kind → Roster → ℕ → State → Frame → List Rule
+frame_rules P1B r own s m = p1b_rules r s m (first m) (second m)
+frame_rules PROPOSE r own s m = propose_rules (pending_of s) m (first m)
+frame_rules LEADER r own s m = leader_rules r own s m
 
 -- all checks of a line
 abbrev pub rules : Roster → ℕ → ℕ → State → List ℕ → List Rule
 rules r own room s line =
     config r own room s gives Config ∷
     form line gives Form ∷
-    frame_rules (kind_of (received line).kind) r own (marks_of s) (pending_of s) (received line)
+    frame_rules (kind_of (received line).kind) r own s (received line)
 
 -- ---- an accepted frame
 
 -- the state with another view, with other pending commands, and with one more report
 abbrev pub in_view : State → View → State
-in_view s view =
-    state_with (record { view = view; ballot = s.ballot; classic = s.classic; reported = s.reported }) s.pending s.proven s.held
+in_view s view = record s { view = view }
 
 abbrev pub waiting : State → List ℕ → State
-waiting s pending = state_with (marks_of s) (stored pending) s.proven s.held
+waiting s pending = record s { pending = stored pending }
 
 abbrev pub reporting : State → Frame → State
 reporting s m =
-    state_with (record { view = s.view; ballot = s.ballot; classic = s.classic; reported = with_site s.reported m.sender }) s.pending
-    (stored_at s.proven m.sender (first m)) (stored_at s.held m.sender (second m))
+    record s {
+      reported = with_site s.reported m.sender;
+      proven = stored_at s.proven m.sender (first m);
+      held = stored_at s.held m.sender (second m);
+    }
 
 -- the history of site i's report in a table
 abbrev pub report_in : State → Table → ℕ → List ℕ
@@ -174,16 +176,16 @@ step r own room s line = judged (refuse s) (accepted (kind_of (received line).ki
 -- ---- opening a ballot
 
 -- STALE: "The host opens a ballot greater than the leader's last, its view mod N being its own number, else STALE"
-unfoldable pub may_open : Roster → ℕ → Marks → Ballot → Bool
-may_open r own k ballot = later_ballot ballot k.ballot && eqb (leader_of r k.view) own
+unfoldable pub may_open : Roster → ℕ → State → Ballot → Bool
+may_open r own s ballot = later_ballot ballot s.ballot && eqb (leader_of r s.view) own
 
 abbrev pub opening_rules : Roster → ℕ → ℕ → State → Ballot → List Rule
-opening_rules r own room s ballot = config r own room s gives Config ∷ not (may_open r own (marks_of s) ballot) gives Stale ∷ []
+opening_rules r own room s ballot = config r own room s gives Config ∷ not (may_open r own s ballot) gives Stale ∷ []
 
 -- "FAST or P1A goes out, and reports are forgotten"
-abbrev pub in_ballot : View → Ballot → ℕ → History → State
-in_ballot view ballot fast pending =
-    state_with (record { view = view; ballot = ballot; classic = cond (is_set fast) 0 1; reported = 0 }) pending empty_table empty_table
+abbrev pub in_ballot : State → Ballot → ℕ → State
+in_ballot s ballot fast =
+    record s { ballot = ballot; classic = cond (is_set fast) 0 1; reported = 0; proven = empty_table; held = empty_table }
 
 abbrev pub invitation : ℕ → View → Ballot → ℕ → Frame
 invitation own view ballot fast = message (cond (is_set fast) 2 1) own view ballot (record { 0 = 0 }) 0 [] []
@@ -191,20 +193,20 @@ invitation own view ballot fast = message (cond (is_set fast) 2 1) own view ball
 -- what the call does; `fast` is a flag: 0 opens a classic ballot
 unfoldable pub opening : Roster → ℕ → ℕ → State → Ballot → ℕ → Reply State
 opening r own room s ballot fast =
-    judged (refuse s) (accept (in_ballot s.view ballot fast s.pending) (sends (invitation own s.view ballot fast))) (opening_rules r own room s ballot)
+    judged (refuse s) (accept (in_ballot s ballot fast) (sends (invitation own s.view ballot fast))) (opening_rules r own room s ballot)
 
 -- ---- of a call with this buffer lent to it: what it returns, and the buffer that it leaves
 
-abbrev pub outcome : Reply State → List ℕ → Outcome
+abbrev pub outcome : Reply State → List ℕ → Outcome State
 outcome o out = record { answer = o.answer; sent = length_sent o.sending out; state = o.state }
 
-abbrev pub returned : Roster → ℕ → State → List ℕ → List ℕ → Outcome
+abbrev pub returned : Roster → ℕ → State → List ℕ → List ℕ → Outcome State
 returned r own s line out = outcome (step r own (length out) s line) out
 
 abbrev pub output : Roster → ℕ → State → List ℕ → List ℕ → List ℕ
 output r own s line out = buffer (step r own (length out) s line).sending out
 
-abbrev pub opening_returned : Roster → ℕ → State → Ballot → ℕ → List ℕ → Outcome
+abbrev pub opening_returned : Roster → ℕ → State → Ballot → ℕ → List ℕ → Outcome State
 opening_returned r own s ballot fast out = outcome (opening r own (length out) s ballot fast) out
 
 abbrev pub opening_output : Roster → ℕ → State → Ballot → ℕ → List ℕ → List ℕ

@@ -1,5 +1,4 @@
 -- What the contracts of `leader` cite; `code` is what only the code's own functions cite.
 pub mod Leader
 pub mod NeedsLaws
-pub mod Parts
 pub mod Code

@@ -57,7 +57,6 @@ use Rattle.leader.specs.Leader.{
   taken,
   received,
   pending_of,
-  marks_of,
   valid_pending,
   config,
   form,
@@ -90,7 +89,7 @@ pub record Reports (r : Roster) (own room : ℕ) (s : State) (line : List ℕ) :
   pub framed : form line ≡ false
   pub kind : kind_of (received line).kind ≡ P1B
   pub from_site : leb r.n (received line).sender ≡ false
-  pub timely : not (awaited r (marks_of s) (received line).ballot (received line).sender) ≡ false
+  pub timely : not (awaited r s (received line).ballot (received line).sender) ≡ false
   pub founded : unfounded r (received line).n (received line).proven_ballot (received line).mask ≡ false
   pub right : (wrong (first (received line)) || wrong (second (received line))) ≡ false
   pub proper : (disordered (first (received line)) || disordered (second (received line))) ≡ false
@@ -115,7 +114,7 @@ pub record Elects (r : Roster) (own room : ℕ) (s : State) (line : List ℕ) : 
   pub framed : form line ≡ false
   pub kind : kind_of (received line).kind ≡ LEADER
   pub from_site : leb r.n (received line).sender ≡ false
-  pub timely : not (leads r own (marks_of s) (received line).view) ≡ false
+  pub timely : not (leads r own s (received line).view) ≡ false
   pub proven : unproven (received line).mask r.n (quorum r) ≡ false
   pub outcome : step r own room s line ≡ accept (in_view s (received line).view) silent
 
@@ -128,7 +127,7 @@ pub data Stepped (r : Roster) (own room : ℕ) (s : State) (line : List ℕ) : T
 -- the checks of a line that holds a frame of kind k
 abbrev rules_for : Kind → Roster → ℕ → ℕ → State → List ℕ → List Rule
 rules_for k r own room s line =
-    config r own room s gives Config ∷ form line gives Form ∷ frame_rules k r own (marks_of s) (pending_of s) (received line)
+    config r own room s gives Config ∷ form line gives Form ∷ frame_rules k r own s (received line)
 
 pub stepped : (r : Roster) (own room : ℕ) (s : State) (line : List ℕ) → Stepped r own room s line
 unfolding step test_of
@@ -214,8 +213,8 @@ rules_follow r own room s line = go (kind_of (received line).kind)
 -- an accepted opening: no check applies
 pub record Opens (r : Roster) (own room : ℕ) (s : State) (ballot : Ballot) (fast : ℕ) : Type 0 where
   pub configured : config r own room s ≡ false
-  pub timely : not (may_open r own (marks_of s) ballot) ≡ false
-  pub outcome : opening r own room s ballot fast ≡ accept (in_ballot s.view ballot fast s.pending) (sends (invitation own s.view ballot fast))
+  pub timely : not (may_open r own s ballot) ≡ false
+  pub outcome : opening r own room s ballot fast ≡ accept (in_ballot s ballot fast) (sends (invitation own s.view ballot fast))
 
 pub data Opened (r : Roster) (own room : ℕ) (s : State) (ballot : Ballot) (fast : ℕ) : Type 0 where
   stays : (e : Refusal) → GivenFirst e (opening_rules r own room s ballot) → opening r own room s ballot fast ≡ refuse s e
@@ -225,9 +224,9 @@ pub data Opened (r : Roster) (own room : ℕ) (s : State) (ballot : Ballot) (fas
 pub opened : (r : Roster) (own room : ℕ) (s : State) (ballot : Ballot) (fast : ℕ) → Opened r own room s ballot fast
 unfolding opening test_of
 opened r own room s ballot fast =
-    go (judgement (refuse s) (accept (in_ballot s.view ballot fast s.pending) (sends (invitation own s.view ballot fast))) (opening_rules r own room s ballot))
+    go (judgement (refuse s) (accept (in_ballot s ballot fast) (sends (invitation own s.view ballot fast))) (opening_rules r own room s ballot))
   where
-    go : Judgement (refuse s) (accept (in_ballot s.view ballot fast s.pending) (sends (invitation own s.view ballot fast))) (opening_rules r own room s ballot)
+    go : Judgement (refuse s) (accept (in_ballot s ballot fast) (sends (invitation own s.view ballot fast))) (opening_rules r own room s ballot)
         → Opened r own room s ballot fast
     go (refused e g o) = stays e g o
     go (accepts n o) = opens (record { configured = no_test n Config; timely = no_test n Stale; outcome = o })
@@ -292,7 +291,7 @@ module _ {r : Roster} {own room : ℕ} {s : State} {line : List ℕ} (P : Reply 
 -- what holds of a refusal and of the reply to an accepted opening holds of what an opening replies
 module _ {r : Roster} {own room : ℕ} {s : State} {ballot : Ballot} {fast : ℕ} (P : Reply State → Type 0)
     (on-refusal : (e : Refusal) → P (refuse s e))
-    (on-opening : Opens r own room s ballot fast → P (accept (in_ballot s.view ballot fast s.pending) (sends (invitation own s.view ballot fast)))) where
+    (on-opening : Opens r own room s ballot fast → P (accept (in_ballot s ballot fast) (sends (invitation own s.view ballot fast)))) where
   pub opening_replies : Opened r own room s ballot fast → P (opening r own room s ballot fast)
   opening_replies (stays e g o) = rw o (on-refusal e)
   opening_replies (opens a) = subst P (sym a.outcome) (on-opening a)
@@ -538,7 +537,7 @@ view_rises r own room s line =
     (λ a.
     le_of_lt
     (ltb-true s.view.0 m.view.0
-    (and_right (eqb (leader_of r m.view) own) _ (not-false (leads r own (marks_of s) m.view) a.timely))))
+    (and_right (eqb (leader_of r m.view) own) _ (not-false (leads r own s m.view) a.timely))))
     (stepped r own room s line)
 
 -- a step keeps the ballot
@@ -562,7 +561,7 @@ module _ (r : Roster) (own room : ℕ) (s : State) (ballot : Ballot) (fast : ℕ
   above : Opens r own room s ballot fast → s.ballot.0 < ballot.0
   unfolding may_open
   above a =
-      ltb-true s.ballot.0 ballot.0 (and_left (later_ballot ballot s.ballot) _ (not-false (may_open r own (marks_of s) ballot) a.timely))
+      ltb-true s.ballot.0 ballot.0 (and_left (later_ballot ballot s.ballot) _ (not-false (may_open r own s ballot) a.timely))
 
   -- the ballot never falls
   pub ballot_rises : s.ballot.0 ≤ (opening r own room s ballot fast).state.ballot.0
@@ -640,7 +639,7 @@ report_awaited : {r : Roster} {own room : ℕ} {s : State} {line : List ℕ} →
 unfolding awaited
 report_awaited {r} {s = s} {line} a =
     let m = received line in
-    let open-now = not-false (awaited r (marks_of s) m.ballot m.sender) a.timely in
+    let open-now = not-false (awaited r s m.ballot m.sender) a.timely in
     let of-ballot = and_right (is_set s.classic) _ open-now in
     let first-time = and_right (same_ballot m.ballot s.ballot) _ of-ballot in
     not-true (reaches s.reported (quorum r)) (and_right (not (bit s.reported m.sender)) _ first-time)

@@ -1,18 +1,24 @@
--- `leader::open_in_place` meets its contract: a refused opening changes nothing; an accepted one hands over the frame that opens the ballot and clears the tables.
-use mathlib.Core.Path.{ap}
-use mathlib.Core.Bool.{not}
-use Rattle.refusal.specs.AnswerLaws.{rule, no_rule}
-use Rattle.leader.specs.Parts.{state_of}
-use Rattle.leader.proofs.Calls.{opens_not, opens}
+-- `leader::open_in_place` meets its contract: CONFIG and STALE are asked in this order and change nothing; an accepted opening sets the ballot, forgets the reports and hands over the frame.
+use Rattle.std.specs.Prelude.{◌≡◌, cond, not, eqb}
+use Rattle.std.proofs.Common.{refl, sym, ◌∙◌}
+use Rattle.std.proofs.lemmas.Bool.{ne_eqb}
+use Rattle.refusal.specs.Rules.{judged}
+use Rattle.leader.specs.Leader.{opening}
+use Rattle.leader.proofs.open_in_place.Goals.{then-fast-eq0, else-fast-eq0}
 use Rattle.leader.proofs.open_in_place.Goals as goal
 
-pub returns-then-stays : goal.returns-then-stays
-returns-then-stays c = let given = c.args in
-    let s = state_of given.marks given.pending.now given.count.now given.proven.now given.proven_counts.now given.held.now given.held_counts.now in
-    rw c.silent.ensures
-    (opens_not given.r given.own s given.ballot given.fast given.out.now c.given-answer.result c.refuses-stays.result (rule _ _ c.given-answer.ensures c.config-unfit.ensures (rule _ _ c.given.ensures (ap not c.may_open-stale.ensures) no_rule)) c.refuses-stays.ensures c.if-stays.true)
+pub returns-then-unfit : goal.returns-then-unfit
+unfolding opening judged
+returns-then-unfit c = rw (sym c.unfit.ensures ∙ c.if-unfit.true) (refl, refl)
+
+pub returns-then-not-may_open : goal.returns-then-not-may_open
+unfolding opening judged
+returns-then-not-may_open c = rw (sym c.unfit.ensures ∙ c.if-unfit.false, sym c.may_open.ensures ∙ c.if-not-may_open.true) (refl, refl)
 
 pub returns : goal.returns
-returns c = let given = c.args in
-    let s = state_of given.marks given.pending.now given.count.now given.proven.now given.proven_counts.now given.held.now given.held_counts.now in
-    opens given.r given.own s given.ballot given.fast given.out.now c.given-answer.result c.refuses-stays.result (rule _ _ c.given-answer.ensures c.config-unfit.ensures (rule _ _ c.given.ensures (ap not c.may_open-stale.ensures) no_rule)) c.refuses-stays.ensures c.if-stays.false _ _ _ (rw (c.opened-now.ensures, c.forget.ensures.0, c.forget.ensures.1)) c.invite-sent.ensures
+unfolding opening judged
+returns c = let classic : c.if-fast-eq0.s ≡ cond (not (eqb c.args.fast 0)) 0 1 = elim c.if-fast-eq0.branch [
+  | then-fast-eq0 w ↦ w.s-is ∙ rw w.if-fast-eq0.true refl
+  | else-fast-eq0 w ↦ w.s-is ∙ rw (ne_eqb _ _ w.if-fast-eq0.false) refl
+] in
+    rw (sym c.unfit.ensures ∙ c.if-unfit.false, sym c.may_open.ensures ∙ c.if-not-may_open.false) (rw (classic, c.clear.ensures, c.clear-2.ensures, c.invite.ensures.0) refl, c.invite.ensures.1)

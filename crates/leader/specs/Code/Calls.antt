@@ -1,21 +1,22 @@
--- What the functions of the crate cite that no public contract reaches: the rules of a line that was read, and what a call leaves.
-use Rattle.std.specs.Prelude.{◌≡◌, not, List, ◌∷◌, ℕ}
+-- What the functions of the crate cite that no public contract reaches: what a frame of a kind does, and what a call leaves.
+use Rattle.std.specs.Prelude.{◌≡◌, List, ℕ, Result}
 use Rattle.roster.specs.declared.Roster.{Roster}
-use Rattle.refusal.specs.declared.Refusal.TheVariants.{Config, Form}
-use Rattle.refusal.specs.Rules.{Rule, ◌gives◌}
-use Rattle.frame.specs.Format.{Reading}
-use Rattle.site.specs.Reply.{Reply, buffer}
+use Rattle.refusal.specs.declared.Refusal.{Refusal}
+use Rattle.refusal.specs.Rules.{judged}
+use Rattle.frame.specs.declared.Frame.{Frame}
+use Rattle.site.specs.Reply as reply
+use Rattle.site.specs.Reply.{Reply, refuse, buffer}
 use Rattle.leader.specs.declared.State.{State}
-use Rattle.leader.specs.declared.Outcome.{Outcome}
-use Rattle.leader.specs.Leader.{kind_of, marks_of, pending_of, config, frame_rules, outcome}
+use Rattle.leader.specs.Leader.{Kind, frame_rules, accepted, outcome}
 
--- all checks of a line of which this was read
-abbrev pub rules_on : Roster → ℕ → ℕ → State → Reading → List Rule
-rules_on r own room s d =
-    config r own room s gives Config ∷
-    not d.found gives Form ∷
-    frame_rules (kind_of d.frame.kind) r own (marks_of s) (pending_of s) d.frame
+-- what a frame of this kind does that FORM lets pass: it is checked, and then taken
+abbrev pub taken_as : Kind → Roster → ℕ → State → Frame → Reply State
+taken_as kind r own s m = judged (refuse s) (accepted kind r own s m) (frame_rules kind r own s m)
 
--- a call with `out` lent to it does this: it ends with that outcome, and `left` is the buffer that it leaves
-abbrev pub Done : Reply State → List ℕ → Outcome → List ℕ → Type 0
-Done o out ended left = (ended ≡ outcome o out) × (left ≡ buffer o.sending out)
+-- a call with `out` lent to it does this: it answers a length or a refusal, and leaves this state and this buffer
+abbrev pub Done : Reply State → List ℕ → Result ℕ Refusal → State → List ℕ → Type 0
+Done o out answered left written = (reply.outcome answered left ≡ outcome o out) × (written ≡ buffer o.sending out)
+
+-- and one that sends nothing does it with any buffer, which stays
+abbrev pub Silently : Reply State → Result ℕ Refusal → State → Type 0
+Silently o answered left = (out : List ℕ) → Done o out answered left out

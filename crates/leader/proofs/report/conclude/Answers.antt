@@ -1,18 +1,35 @@
--- `leader::report::conclude` meets its contract: it tests for report N-f, and then proposes, hands over the P2A and keeps the rest pending.
-use native.Mathlib.Omega.{arith}
+-- `leader::report::conclude` meets its contract: it tests for report N-f, and then proposes, keeps the rest pending, and hands over the P2A if there is one.
+use Rattle.std.proofs.Common.{◌≤◌, [], refl, sym, ◌∙◌, length, take, arith, rules}
 use lib.ListN.{length-take}
-use Rattle.history.specs.Words.{history_of}
-use Rattle.leader.specs.Parts.{state_of}
-use Rattle.leader.proofs.Calls.{concludes_not, concludes}
+use lib.Seq.{take_all}
+use Rattle.words.specs.Sizes.{capacity}
+use Rattle.site.specs.Message.{message}
+use Rattle.site.specs.Reply.{Handed, sends}
+use Rattle.leader.specs.Leader.{conclude}
+use Rattle.leader.proofs.Calls.{concludes}
 use Rattle.leader.proofs.report.conclude.Goals as goal
 
-pub returns-then-not-complete : goal.returns-then-not-complete
-returns-then-not-complete c = let given = c.args in
-    rw c.silent.ensures (concludes_not given.r given.own (state_of given.marks given.pending.now given.count.now given.proven.now given.proven_counts.now given.held.now given.held_counts.now) given.out.now c.quorum.result c.reaches-complete.result c.quorum.ensures c.reaches-complete.ensures c.if-not-complete.true)
+pub returns-then-not-reaches : goal.returns-then-not-reaches
+unfolding conclude
+returns-then-not-reaches c = rw (← c.quorum.ensures, sym c.reaches.ensures ∙ c.if-not-reaches.true) (refl, refl)
 
-pub send_p2a-sent-requires : goal.send_p2a-sent-requires
-send_p2a-sent-requires c = rw (c.first-h.ensures, length-take) (omega arith)
+pub returns-then-is_empty : goal.returns-then-is_empty
+returns-then-is_empty c = rw (
+  concludes c.args.r c.args.own c.args.s.now (rw (← c.quorum.ensures) (sym c.reaches.ensures ∙ c.if-not-reaches.false)) _ _ _ c.commands.ensures c.propose-proposed.ensures c.commands-h.ensures,
+  sym c.is_empty.ensures ∙ c.if-is_empty.true,
+  c.remaining-s.ensures,
+  c.commands-2.ensures,
+) (refl, refl)
 
 pub returns : goal.returns
-returns c = let given = c.args in
-    concludes given.r given.own (state_of given.marks given.pending.now given.count.now given.proven.now given.proven_counts.now given.held.now given.held_counts.now) given.out.now c.quorum.result c.reaches-complete.result c.quorum.ensures c.reaches-complete.ensures c.if-not-complete.false c.first-p.result.now c.propose-proposed.result c.first-h.result.now _ _ (history_of c.shorten.new.pending c.shorten.new.count) c.first-p.ensures c.propose-proposed.ensures c.first-h.ensures c.send_p2a-sent.ensures c.shorten.ensures
+returns c = let s = c.args.s.now in
+    let h = c.commands-h.result.now in
+    let short : length h ≤ capacity = rw (c.commands-h.ensures, length-take) (omega arith) in
+    let sent : Handed (sends (message 5 c.args.own s.view s.ballot (record { 0 = 0 }) 0 (take capacity h) [])) c.send.result c.args.out.now c.send.new.out = search rules in
+    let whole = rw (take_all capacity h short) at sent in
+    rw (
+      concludes c.args.r c.args.own s (rw (← c.quorum.ensures) (sym c.reaches.ensures ∙ c.if-not-reaches.false)) _ _ _ c.commands.ensures c.propose-proposed.ensures c.commands-h.ensures,
+      sym c.is_empty.ensures ∙ c.if-is_empty.false,
+      c.remaining-s.ensures,
+      c.commands-2.ensures,
+    ) (rw whole.0 refl, whole.1)
