@@ -44,7 +44,7 @@ call r i s (to_acceptor line out) =
     }
 call r i s (to_view_change line out) =
     let o = viewchange.returned r i s.views line out in
-    record { kept = record { views = o.views; state = s.state }; sent = o.sent; output = viewchange.output r i s.views line out }
+    record { kept = record { views = o.state; state = s.state }; sent = o.sent; output = viewchange.output r i s.views line out }
 
 -- Among the calls of site i from s on, one sent this line: the bytes to be sent, "at the front of the output buffer"; 0 bytes are no line.
 -- "each call gets the state that the last one in its list returned or left"
