@@ -63,7 +63,6 @@ use Rattle.acceptor.specs.Acceptor.{
   carried,
   held_of,
   proven_of,
-  marks_of,
   entry_of,
   config,
   form,
@@ -236,7 +235,7 @@ module _ {r : Roster} {own room : ℕ} {v : ViewRecord} {s : State} {line : List
 
   -- a frame of each kind, with what its checks say
   on_kind : Accepts r own room v s line → (k : Kind)
-      → NoneHolds (frame_rules k r v.view (marks_of s) (held_of s) (proven_of s) (entry_of s (received line)) (received line))
+      → NoneHolds (frame_rules k r v.view s (received line))
       → P (accepted k r own v s (received line))
   unfolding opening sign lengthened overflows test_of
   on_kind a P1A n = on-classic a
