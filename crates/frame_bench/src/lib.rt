@@ -3,7 +3,7 @@
 
 ghost use Rattle.std.specs.Prelude.{◌≡◌};
 ghost use Rattle.words.specs.Sizes.{limit};
-ghost use Rattle.frame.specs.Format.{reading_of, written_length, written};
+ghost use Rattle.frame.specs.Format.{blank, reading_of, written_length, written};
 ghost use Rattle.frame_bench.specs.Flat.{flat_of, flat_with, framed};
 
 use frame::Frame;
@@ -44,18 +44,31 @@ fn flattened(found: u8, f: Frame) -> Flat
     }
 }
 
+// The frame that is all 0.
+fn blank() -> Frame
+    ensures { result ≡ blank }
+{
+    Frame {
+        kind: 0,
+        sender: 0,
+        view: View(0),
+        ballot: Ballot(0),
+        proven_ballot: Ballot(0),
+        mask: 0,
+        n: 0,
+        m: 0,
+        words: [0; frame::CAPACITY],
+    }
+}
+
 // The frame of a line.
 #[unsafe(no_mangle)]
 pub extern "C" fn frame_bench_read(line: &[u8], kinds: u16) -> Flat
     ensures { result ≡ flat_of (reading_of limit line.now kinds) }
 {
-    let r = frame::read(words::LIMIT, line, kinds);
-    let found = r.found;
-    let f = r.frame;
-    if found {
-        flattened(1, f)
-    } else {
-        flattened(0, f)
+    match frame::read(words::LIMIT, line, kinds) {
+        Some(f) => flattened(1, f),
+        None => flattened(0, blank()),
     }
 }
 

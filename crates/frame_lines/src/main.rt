@@ -18,21 +18,15 @@ fn put(rt: &impl Print, text: &[u8]) -> io::Result<()> {
     rt.write_all(text)
 }
 
-// Whether a starts with b.
-fn starts(a: &[u8], b: &[u8]) -> bool {
-    a.starts_with(b)
-}
-
 // Writes whether a line is read and, where it is, whether writing gives it back.
 fn show(rt: &impl Print, name: &[u8], line: &[u8], kinds: u16) -> io::Result<()> {
     put(rt, name)?;
-    let reading = frame::read(words::LIMIT, line, kinds);
-    if !reading.found {
+    let Some(f) = frame::read(words::LIMIT, line, kinds) else {
         return put(rt, b": refused\n");
-    }
+    };
     let mut out = [0u8; frame::LONGEST];
-    let n = frame::write(reading.frame, &mut out);
-    if starts(&out, line) && n == line.len() {
+    let n = frame::write(f, &mut out);
+    if out.starts_with(line) && n == line.len() {
         put(rt, b": read, and written back\n")
     } else {
         put(rt, b": read, and not written back\n")

@@ -1,7 +1,6 @@
 // Document 01's sample histories, run: canonical orders, extensions and merges, a line each.
 #![tactic(auto)]
 
-use history::History;
 use std::io;
 
 // A enrols slot 7, B revokes it; C and D raise slot 9.
@@ -30,19 +29,10 @@ fn put(rt: &impl Print, text: &[u8]) -> io::Result<()> {
 
 // Writes the letters of a history and ends the line.
 fn show(rt: &impl Print, h: &[u64]) -> io::Result<()> {
-    for c in h {
-        put(rt, &[letter(*c)])?;
+    for &c in h {
+        put(rt, &[letter(c)])?;
     }
     put(rt, b"\n")
-}
-
-fn show_history(rt: &impl Print, h: History) -> io::Result<()> {
-    let n = h.count as usize;
-    if n <= words::CAPACITY {
-        let w: &[u64] = &h.words;
-        show(rt, &w[..n])?;
-    }
-    Ok(())
 }
 
 fn order(rt: &impl Print, text: &[u8], h: &mut [u64]) -> io::Result<()> {
@@ -64,12 +54,12 @@ fn merged(rt: &impl Print, text: &[u8], g: &[u64], h: &[u64]) -> io::Result<()> 
     put(rt, text)?;
     let m = merge::merge(words::LIMIT, g, h);
     if m.split {
-        return put(rt, b"SPLIT\n");
+        put(rt, b"SPLIT\n")
+    } else if m.full {
+        put(rt, b"FULL\n")
+    } else {
+        show(rt, m.history.commands())
     }
-    if m.full {
-        return put(rt, b"FULL\n");
-    }
-    show_history(rt, m.history)
 }
 
 fn orders(rt: &impl Print) -> io::Result<()> {

@@ -70,9 +70,8 @@ pub fn feed(
         if whole {
             if started {
                 let o = learner::step(roster, state, words::first(line, len));
-                let answer = o.answer;
                 state = o.state;
-                end = lines::put_answer(out, end, answer.number(), o.supporters);
+                end = lines::put_answer(out, end, refusal::number(o.answer), o.supporters);
             } else {
                 roster = lines::roster_of(words::first(line, len));
                 started = true;
@@ -107,6 +106,5 @@ pub fn finish(s: Stream, line: &[u8], out: &mut [u8], used: usize) -> usize
         return used;
     }
     let o = learner::step(s.roster, s.state, words::first(line, len));
-    let answer = o.answer;
-    lines::put_answer(out, used, answer.number(), o.supporters)
+    lines::put_answer(out, used, refusal::number(o.answer), o.supporters)
 }
