@@ -1,6 +1,7 @@
 // Document 01's sample histories, run: canonical orders, extensions and merges, a line each.
 #![tactic(auto)]
 
+use merge::Unmerged;
 use std::io;
 
 // A enrols slot 7, B revokes it; C and D raise slot 9.
@@ -52,13 +53,10 @@ fn extension(rt: &impl Print, text: &[u8], h: &[u64], g: &[u64]) -> io::Result<(
 
 fn merged(rt: &impl Print, text: &[u8], g: &[u64], h: &[u64]) -> io::Result<()> {
     put(rt, text)?;
-    let m = merge::merge(words::LIMIT, g, h);
-    if m.split {
-        put(rt, b"SPLIT\n")
-    } else if m.full {
-        put(rt, b"FULL\n")
-    } else {
-        show(rt, m.history.commands())
+    match merge::merge(words::LIMIT, g, h) {
+        Ok(history) => show(rt, history.commands()),
+        Err(Unmerged::Split) => put(rt, b"SPLIT\n"),
+        Err(Unmerged::Full) => put(rt, b"FULL\n"),
     }
 }
 
