@@ -21,12 +21,21 @@ use Rattle.history.specs.FrontLaws.{rotated_last}
 pub tail_part : (h : List ℕ) (a : ℕ) → take (length h - a) (drop a h) ≡ drop a h
 tail_part h a = rw (← length-drop a h) (take-length (drop a h))
 
--- ---- present and repeated, as the chains compute them
+-- ---- present
 
-pub present_chain : (c : ℕ) (h : List ℕ) → present c h ≡ list_any (same_request c) h
+pub present_stop : (c : ℕ) (h : List ℕ) (i : ℕ) → i < length h → same_request c (get_or h i 0) ≡ true → present c (drop i h) ≡ true
 unfolding present
-present_chain c [] = refl
-present_chain c (d ∷ h) = ap (λ b. same_request c d || b) (present_chain c h)
+present_stop c h i p e = rw (drop_next h i p, e)
+
+pub present_more : (c : ℕ) (h : List ℕ) (i : ℕ) → i < length h → same_request c (get_or h i 0) ≡ false → present c (drop i h) ≡ present c (drop (i + 1) h)
+unfolding present
+present_more c h i p e = rw (drop_next h i p, e)
+
+pub present_end : (c : ℕ) (h : List ℕ) (i : ℕ) → length h ≤ i → present c (drop i h) ≡ false
+unfolding present
+present_end c h i p = rw (drop_of_length-le h p)
+
+-- ---- repeated, as the chain computes it
 
 -- from position i on, of the n that are left
 repeated_from : (h : List ℕ) (i n : ℕ) → i + n ≡ length h

@@ -28,7 +28,12 @@ pub struct History {
 pub fn present(c: u64, h: &[u64]) -> bool
     ensures { result ≡ spec.present c h.now }
 {
-    h.iter().any(|d| command::same_request(c, *d))
+    for &d in h {
+        if command::same_request(c, d) {
+            return true;
+        }
+    }
+    false
 }
 
 // The number of c's mark: one for all commands of a proposer and serial.

@@ -35,11 +35,15 @@ pub fn append(buf: &mut [u64], count: usize, more: &[u64]) -> usize
 }
 
 // Whether g holds c, byte for byte.
-#[tactic(auto, using(crate::proofs::Scans::holds_any))]
 pub fn holds(g: &[u64], c: u64) -> bool
     ensures { result ≡ appending.holds g.now c }
 {
-    g.contains(&c)
+    for &d in g {
+        if c == d {
+            return true;
+        }
+    }
+    false
 }
 
 // Whether g holds c's proposer and serial with other bytes.
