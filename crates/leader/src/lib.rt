@@ -42,7 +42,7 @@ fn pending_valid(limit: u8, pending: &History) -> bool
     ensures { result ≡ spec.valid_pending limit pending.now }
 {
     let h = pending.commands();
-    pending.count <= limit && (command::all_valid(h) && !history::repeated(h))
+    pending.count <= limit && command::all_valid(h) && !history::repeated(h)
 }
 
 // Whether the roster, the own number, the room or the state is one that no call takes.
@@ -51,9 +51,10 @@ fn unfit(r: Roster, own: u8, room: usize, s: &State) -> bool
     ensures { result ≡ spec.config r own room s.now }
 {
     !(site::seated(r, own, room)
-        && (pending_valid(words::LIMIT, &s.pending)
-            && (!roster::beyond(s.reported, r.n)
-                && (s.proven.is_valid(words::LIMIT, r.n) && s.held.is_valid(words::LIMIT, r.n)))))
+        && pending_valid(words::LIMIT, &s.pending)
+        && !roster::beyond(s.reported, r.n)
+        && s.proven.is_valid(words::LIMIT, r.n)
+        && s.held.is_valid(words::LIMIT, r.n))
 }
 
 // One step in place: how many bytes of the buffer are to be sent, or a refusal, which changes nothing. Any line is answered in any state.
