@@ -42,7 +42,7 @@ fn pending_valid(limit: u8, pending: &History) -> bool
     ensures { result ≡ spec.valid_pending limit pending.now }
 {
     let h = pending.commands();
-    pending.count <= limit && (command::all_valid(h) && !history::repeated(h))
+    pending.count <= limit && command::all_valid(h) && !history::repeated(h)
 }
 
 // Whether the roster, the own number, the room or the state is one that no call takes.
@@ -51,12 +51,13 @@ fn unfit(r: Roster, own: u8, room: usize, s: &State) -> bool
     ensures { result ≡ spec.config r own room s.now }
 {
     !(site::seated(r, own, room)
-        && (pending_valid(words::LIMIT, &s.pending)
-            && (!roster::beyond(s.reported, r.n)
-                && (s.proven.is_valid(words::LIMIT, r.n) && s.held.is_valid(words::LIMIT, r.n)))))
+        && pending_valid(words::LIMIT, &s.pending)
+        && !roster::beyond(s.reported, r.n)
+        && s.proven.is_valid(words::LIMIT, r.n)
+        && s.held.is_valid(words::LIMIT, r.n))
 }
 
-// One step in place: how many bytes of the buffer are to be sent, or why the line is refused; then state and buffer stay. Any line is answered in any state.
+// One step in place: how many bytes of the buffer are to be sent, or a refusal, which changes nothing. Any line is answered in any state.
 pub fn step_in_place(
     r: Roster,
     own: u8,
@@ -81,8 +82,8 @@ pub fn step_in_place(
     }
 }
 
-// Opens a ballot in place, classic where `fast` is 0: P1A or FAST goes out, and the reports are forgotten; pending stays. Answers how many bytes of the
-// buffer are to be sent, or why not; then state and buffer stay. Any ballot is answered in any state.
+// Opens a ballot in place, classic where `fast` is 0: P1A or FAST goes out, and reports are forgotten; pending stays. Answers how many bytes of
+// the buffer are to be sent, or a refusal, which changes nothing. Any ballot is answered in any state.
 pub fn open_in_place(
     r: Roster,
     own: u8,

@@ -16,8 +16,9 @@ fn awaited(r: Roster, s: &State, ballot: Ballot, site: u8) -> bool
     ensures { result ≡ spec.awaited r s.now ballot site }
 {
     s.classic != 0
-        && (ballot == s.ballot
-            && (!roster::contains(s.reported, site) && !roster::reaches(s.reported, r.quorum())))
+        && ballot == s.ballot
+        && !roster::contains(s.reported, site)
+        && !roster::reaches(s.reported, r.quorum())
 }
 
 // Whether a report's proof will not do: an empty proven history needs proven ballot 0 and mask 0, another N-f ones.
@@ -58,11 +59,7 @@ fn check(r: Roster, s: &State, head: Heading, proven: &[u64], held: &[u64]) -> A
 fn after(words: &[u64], n: usize, m: usize) -> &[u64]
     ensures { result.now ≡ take m (drop n words.now) }
 {
-    if n <= words.len() {
-        history::first(&words[n..], m)
-    } else {
-        &words[..0]
-    }
+    history::first(words.get(n..).unwrap_or(&[]), m)
 }
 
 // On report N-f, proposes a history of the reports and of what is pending, and keeps pending what it does not hold. Before that, nothing. Answers the
