@@ -1,18 +1,25 @@
 -- Bytes put into a buffer one by one: what a turn of each loop leaves to do, and what is left at its end.
-use Prim.Native.Nat.{ℕ, ◌+◌, ◌≤◌, ◌<◌}
+use Prim.Native.Nat.{ℕ, suc, ◌+◌, ◌≤◌, ◌<◌}
 use native.Mathlib.Nat.{add-zero}
 use native.Mathlib.Omega.{arith}
 use mathlib.Core.Path.{◌≡◌, refl, sym, ap, ◌∙◌}
 use mathlib.Core.Bool.{true, false}
 use mathlib.Core.List.{List, [], ◌∷◌}
-use lib.Dec.{eqb}
-use lib.ListN.{length, get_or, drop, drop_of_length-le}
-use borrow.Author.Tests.{eq-eqb, ne_eqb}
+use mathlib.Core.Logic.{◌⊎◌, inl, inr}
+use lib.Dec.{eqb, ltb}
+use lib.ListN.{length, get_or, take, drop, drop_of_length-le}
+use Rattle.std.specs.Prelude.{None, Some, position}
+use Rattle.std.specs.List.{position_or_len}
+use Rattle.std.proofs.Common.{take_all, length-take-le}
+use Rattle.std.proofs.Math.Seq.{take-nil}
+use Rattle.std.proofs.lemmas.Bool.Decides.{nat_tests}
+use borrow.Author.Tests.{ltb-false, lt-ltb}
+use Rattle.basics.specs.Bools.{true_or_false}
 use Rattle.basics.specs.Lists.{drop_next}
 use Rattle.frame.specs.Format.{line_feed}
 use Rattle.lines.specs.declared.Pulled.{Pulled}
 use Rattle.lines.specs.Lines.{through, ends, pushed, pushed_length, kept, kept_length, pulled}
-use Rattle.lines.specs.LinesLaws.{through_feed, through_other, ends_feed, ends_other}
+use Rattle.lines.proofs.Digits.{some_when, none_when}
 use Rattle.lines.specs.BufferLaws.{kept_one, length_one, kept_none, length_none, kept_append, length_append_kept}
 
 -- ---- text behind text, from place i of it on
@@ -29,42 +36,64 @@ put_turn out n text i h =
 pub put_end : (out : List ℕ) (n : ℕ) (text : List ℕ) (i : ℕ) → length text ≤ i → (n ≡ kept_length out n (drop i text)) × (out ≡ kept out n (drop i text))
 put_end out n text i h = rw (drop_of_length-le text h) (sym (length_none out n), sym (kept_none out n))
 
--- ---- a line out of bytes, from place i of them on
+-- ---- a line out of bytes
 
--- pulled from the bytes b and bs, of which b is no line feed, one, or not there
-module _ (l : List ℕ) (n i : ℕ) where
-  more_of : (b : ℕ) (bs : List ℕ) → eqb b line_feed ≡ false
-      → (pulled (kept l n (b ∷ [])) (kept_length l n (b ∷ [])) bs (i + 1) ≡ pulled l n (b ∷ bs) i)
-      × (kept (kept l n (b ∷ [])) (kept_length l n (b ∷ [])) (through bs) ≡ kept l n (through (b ∷ bs)))
+-- how many bytes come before the first line feed
+abbrev before_feed : List ℕ → ℕ
+before_feed bs = position_or_len (λ b. eqb b line_feed) bs
+
+through_take : (bs : List ℕ) → through bs ≡ take (before_feed bs + 1) bs
+unfolding through
+through_take [] = sym (take-nil (before_feed [] + 1))
+through_take (b ∷ bs) = go (true_or_false (eqb b line_feed)) (through_take bs)
+  where
+    go : (eqb b line_feed ≡ true) ⊎ (eqb b line_feed ≡ false) → through bs ≡ take (before_feed bs + 1) bs
+        → through (b ∷ bs) ≡ take (before_feed (b ∷ bs) + 1) (b ∷ bs)
+    go (inl e) ih = rw e refl
+    go (inr e) ih =
+        let more : 1 + before_feed bs + 1 ≡ suc (before_feed bs + 1) = omega arith in
+        rw (e, more) (ap (λ (s : List ℕ). b ∷ s) ih)
+
+one_more : (m n : ℕ) → ltb m n ≡ ltb (1 + m) (suc n)
+one_more m n = grind (arith, nat_tests)
+
+ends_at : (bs : List ℕ) → ends bs ≡ ltb (before_feed bs) (length bs)
+unfolding ends
+ends_at [] = refl
+ends_at (b ∷ bs) = go (true_or_false (eqb b line_feed)) (ends_at bs)
+  where
+    go : (eqb b line_feed ≡ true) ⊎ (eqb b line_feed ≡ false) → ends bs ≡ ltb (before_feed bs) (length bs)
+        → ends (b ∷ bs) ≡ ltb (before_feed (b ∷ bs)) (length (b ∷ bs))
+    go (inl e) ih = rw e (sym (lt-ltb 0 (length (b ∷ bs)) (omega arith)))
+    go (inr e) ih = rw e (ih ∙ one_more (before_feed bs) (length bs))
+
+-- pulled from bytes, of which place i is the first: r and l' are what putting those through the first line feed answers and leaves
+module _ (l : List ℕ) (n i : ℕ) (bs : List ℕ) (r : ℕ) (l' : List ℕ) where
+  pub pull_ends : (k : ℕ) → Some k ≡ position (λ b. eqb b line_feed) bs → k < length bs
+      → (r ≡ kept_length l n (take (k + 1) bs)) × (l' ≡ kept l n (take (k + 1) bs))
+      → (◌≡◌ {A = Pulled} (record { len = r; next = i + k + 1; whole = true }) (pulled l n bs i)) × (l' ≡ kept l n (through bs))
   unfolding pulled
-  more_of b bs e =
-      let len : kept_length (kept l n (b ∷ [])) (kept_length l n (b ∷ [])) (through bs) ≡ kept_length l n (through (b ∷ bs))
-      = length_append_kept l n (b ∷ []) (through bs) ∙ ap (kept_length l n) (sym (through_other b bs e)) in
-      let next : i + 1 + length (through bs) ≡ i + length (through (b ∷ bs)) = rw (through_other b bs e) (omega arith) in
-      let whole : ends bs ≡ ends (b ∷ bs) = sym (ends_other b bs e) in
-      ((λ k. record { len = len k; next = next k; whole = whole k }), kept_append l n (b ∷ []) (through bs) ∙ ap (kept l n) (sym (through_other b bs e)))
+  pull_ends k e h p =
+      let w = some_when (ltb (before_feed bs) (length bs)) (before_feed bs) k e in
+      let t : through bs ≡ take (k + 1) bs = rw w.1 (through_take bs) in
+      let len : r ≡ kept_length l n (through bs) = rw t p.0 in
+      let next : i + k + 1 ≡ i + length (through bs) = rw t (omega (arith, length-take-le (k + 1) bs (omega arith))) in
+      let whole : true ≡ ends bs = sym (ends_at bs ∙ w.0) in
+      ((λ j. record { len = len j; next = next j; whole = whole j }), rw t p.1)
 
-  last_of : (b : ℕ) (bs : List ℕ) → eqb b line_feed ≡ true
-      → (◌≡◌ {A = Pulled} (record { len = kept_length l n (b ∷ []); next = i + 1; whole = true }) (pulled l n (b ∷ bs) i))
-      × (kept l n (b ∷ []) ≡ kept l n (through (b ∷ bs)))
+  pub pull_stops : None ≡ position (λ b. eqb b line_feed) bs → (r ≡ kept_length l n bs) × (l' ≡ kept l n bs)
+      → (◌≡◌ {A = Pulled} (record { len = r; next = i + length bs; whole = false }) (pulled l n bs i)) × (l' ≡ kept l n (through bs))
   unfolding pulled
-  last_of b bs e = rw (through_feed b bs e, ends_feed b bs e) (refl, refl)
+  pull_stops e p =
+      let w = none_when (ltb (before_feed bs) (length bs)) (before_feed bs) e in
+      let t : through bs ≡ bs = through_take bs ∙ take_all (before_feed bs + 1) bs (omega (arith, ltb-false (before_feed bs) (length bs) w)) in
+      let len : r ≡ kept_length l n (through bs) = rw t p.0 in
+      let next : i + length bs ≡ i + length (through bs) = rw t refl in
+      let whole : false ≡ ends bs = sym (ends_at bs ∙ w) in
+      ((λ j. record { len = len j; next = next j; whole = whole j }), rw t p.1)
 
-  none_of : (◌≡◌ {A = Pulled} (record { len = n; next = i; whole = false }) (pulled l n [] i)) × (l ≡ kept l n (through []))
-  unfolding pulled through ends
-  none_of = rw (length_none l n, kept_none l n, add-zero i) (refl, refl)
-
-module _ (l : List ℕ) (n : ℕ) (bytes : List ℕ) (i : ℕ) where
-  pub pull_turn : i < length bytes → (get_or bytes i 0 ≡ line_feed → ⊥)
-      → (pulled (pushed l n (get_or bytes i 0)) (pushed_length l n) (drop (i + 1) bytes) (i + 1) ≡ pulled l n (drop i bytes) i)
-      × (kept (pushed l n (get_or bytes i 0)) (pushed_length l n) (through (drop (i + 1) bytes)) ≡ kept l n (through (drop i bytes)))
-  pull_turn h d = rw (sym (kept_one l n (get_or bytes i 0)), sym (length_one l n (get_or bytes i 0)), drop_next bytes i h) (more_of l n i (get_or bytes i 0) (drop (i + 1) bytes) (ne_eqb (get_or bytes i 0) line_feed d))
-
-  pub pull_ends : i < length bytes → get_or bytes i 0 ≡ line_feed
-      → (◌≡◌ {A = Pulled} (record { len = pushed_length l n; next = i + 1; whole = true }) (pulled l n (drop i bytes) i))
-      × (pushed l n (get_or bytes i 0) ≡ kept l n (through (drop i bytes)))
-  pull_ends h e = rw (sym (kept_one l n (get_or bytes i 0)), sym (length_one l n (get_or bytes i 0)), drop_next bytes i h) (last_of l n i (get_or bytes i 0) (drop (i + 1) bytes) (eq-eqb (get_or bytes i 0) line_feed e))
-
-  pub pull_stops : length bytes ≤ i
-      → (◌≡◌ {A = Pulled} (record { len = n; next = i; whole = false }) (pulled l n (drop i bytes) i)) × (l ≡ kept l n (through (drop i bytes)))
-  pull_stops h = rw (drop_of_length-le bytes h) (none_of l n i)
+-- and from none
+pub pull_none : (l : List ℕ) (n : ℕ) (bytes : List ℕ) (i : ℕ) → length bytes ≤ i
+    → (◌≡◌ {A = Pulled} (record { len = n; next = i; whole = false }) (pulled l n (drop i bytes) i)) × (l ≡ kept l n (through (drop i bytes)))
+unfolding pulled through ends
+pull_none l n bytes i h = rw (drop_of_length-le bytes h, length_none l n, kept_none l n, add-zero i) (refl, refl)

@@ -1,11 +1,11 @@
 -- The lines of the learner's program: the first line, "N and f, two hex bytes (a bad one counts as N=0)"; what is kept of a line while
 -- it arrives; how bytes are lines, and a line out of bytes that arrive in pieces; text behind text in a buffer; and the answer to each later
 -- line, "answer and supporters in decimal, as `0 4`".
-use Rattle.std.specs.Prelude.{ℕ, ◌+◌, ◌-◌, ◌/◌, ◌%◌, Bool, false, cond, ◌&&◌, ◌||◌, List, [], ◌∷◌, ◌++◌, ltb, eqb, length, get_or, take, set}
+use Rattle.std.specs.Prelude.{ℕ, ◌+◌, ◌-◌, ◌/◌, ◌%◌, Bool, false, cond, ◌&&◌, ◌||◌, List, [], ◌∷◌, ◌++◌, ltb, eqb, length, get_or, take, set, Option, None, Some}
 use Rattle.std.proofs.lemmas.List.Edits.{sets}
 use Rattle.words.specs.Words.{padded}
 use Rattle.roster.specs.declared.Roster.{Roster}
-use Rattle.frame.specs.Hex.{is_digit, byte_of}
+use Rattle.frame.specs.Hex.{is_digit, value_of, byte_of}
 use Rattle.frame.specs.Format.{line_feed}
 use Rattle.lines.specs.declared.Text.{Text}
 use Rattle.lines.specs.declared.Pulled.{Pulled}
@@ -15,6 +15,13 @@ abbrev pub space : ℕ
 space = 32
 
 -- ---- the first line
+
+-- the digit that a character is, and the byte of two, if they are lower-case hex digits
+abbrev pub digit_of : ℕ → Option ℕ
+digit_of c = cond (is_digit c) (Some (value_of c)) None
+
+abbrev pub byte_in : ℕ → ℕ → Option ℕ
+byte_in a b = cond (is_digit a && is_digit b) (Some (byte_of a b)) None
 
 -- whether four characters are lower-case hex digits
 unfoldable pub are_digits : ℕ → ℕ → ℕ → ℕ → Bool

@@ -2,9 +2,10 @@
 // text put behind text, and an answer as a line.
 #![tactic(auto)]
 
-ghost use Rattle.std.specs.Prelude.{◌≡◌, true, ◌+◌, ◌-◌, ◌≤◌, length, take, drop};
+ghost use Rattle.std.specs.Prelude.{◌≡◌, ◌==◌, cond, ◌+◌, ◌-◌, ◌<◌, ◌≤◌, Some, None, IfSome, length, position, take, drop};
 ghost use Rattle.std.proofs.lemmas.List.Edits.{sets};
 ghost use Rattle.frame.specs.Hex as hex;
+ghost use Rattle.frame.specs.Format.{line_feed};
 ghost use Rattle.lines.specs.Lines as spec;
 
 use roster::Roster;
@@ -34,53 +35,44 @@ pub struct Pulled {
     pub whole: bool,
 }
 
-// Whether a character is a lower-case hex digit.
-fn is_digit(c: u8) -> bool
-    ensures { result ≡ hex.is_digit c }
+// The digit that a character is, if it is a lower-case hex digit.
+#[tactic(auto, using(std::proofs::lemmas::Bool::Decides::nat_tests), unfolding(frame::specs::Hex::is_digit, frame::specs::Hex::value_of))]
+fn digit(c: u8) -> Option<u8>
+    ensures { result ≡ spec.digit_of c }
 {
-    ((48 <= c) & (c <= 57)) | ((97 <= c) & (c <= 102))
+    match c {
+        b'0'..=b'9' => Some(c - b'0'),
+        b'a'..=b'f' => Some(c - b'a' + 10),
+        _ => None,
+    }
 }
 
-// The digit that a character is.
-fn value(c: u8) -> u8
-    requires { hex.is_digit c ≡ true }
-    ensures { (result ≡ hex.value_of c) × (result ≤ 15) }
+// The byte of two characters, if both are digits.
+fn byte(a: u8, b: u8) -> Option<u8>
+    ensures { result ≡ spec.byte_in a b }
 {
-    if c <= 57 { c - 48 } else { c - 87 }
+    Some(16 * digit(a)? + digit(b)?)
 }
 
-// Whether all four characters are lower-case hex digits.
-fn are_digits(a: u8, b: u8, c: u8, d: u8) -> bool
-    ensures { result ≡ spec.are_digits a b c d }
+// The roster of four digits.
+fn roster(a: u8, b: u8, c: u8, d: u8) -> Option<Roster>
+    ensures { result ≡ cond (spec.are_digits a b c d) (Some (record { n = hex.byte_of a b; f = hex.byte_of c d })) None }
 {
-    is_digit(a) & is_digit(b) & is_digit(c) & is_digit(d)
-}
-
-// The byte of two digits.
-fn byte(a: u8, b: u8) -> u8
-    requires { (hex.is_digit a ≡ true) × (hex.is_digit b ≡ true) }
-    ensures { result ≡ hex.byte_of a b }
-{
-    16 * value(a) + value(b)
+    Some(Roster {
+        n: byte(a, b)?,
+        f: byte(c, d)?,
+    })
 }
 
 // The roster that the first line gives: four lower-case hex digits and a line feed, N and f. Another line counts as N=0, f=0.
+#[tactic(auto, using(crate::proofs::Digits::ended_line, crate::proofs::Digits::other_length, crate::proofs::Digits::other_end))]
 pub fn roster_of(line: &[u8]) -> Roster
     ensures { result ≡ spec.roster_of line.now }
 {
-    if line.len() != 5 {
-        return Roster { n: 0, f: 0 };
-    }
-    let digits = are_digits(line[0], line[1], line[2], line[3]);
-    if !digits {
-        return Roster { n: 0, f: 0 };
-    }
-    if line[4] != LINE_FEED {
-        return Roster { n: 0, f: 0 };
-    }
-    Roster {
-        n: byte(line[0], line[1]),
-        f: byte(line[2], line[3]),
+    let none = Roster { n: 0, f: 0 };
+    match line {
+        [a, b, c, d, LINE_FEED] => roster(*a, *b, *c, *d).unwrap_or(none),
+        _ => none,
     }
 }
 
@@ -100,10 +92,7 @@ pub fn push(line: &mut [u8], len: usize, b: u8) -> usize
 pub fn room(out: &[u8], used: usize) -> usize
     ensures { result ≡ length out.now - used }
 {
-    if out.len() < used {
-        return 0;
-    }
-    out.len() - used
+    out.len().saturating_sub(used)
 }
 
 // Puts `text` behind the first `used` bytes, as much of it as there is room for, and answers how many are in use then.
@@ -111,13 +100,18 @@ fn put(out: &mut [u8], used: usize, text: &[u8]) -> usize
     ensures { (result ≡ spec.kept_length out.old used text.now) × (out.new ≡ spec.kept out.old used text.now) }
 {
     let mut end = used;
-    let mut i: usize = 0;
-    while i < text.len() {
-        let b = text[i];
-        i += 1;
-        end = push(out, end, b);
+    for b in text {
+        end = push(out, end, *b);
     }
     end
+}
+
+// Where the first line feed stands.
+fn line_end(bytes: &[u8]) -> Option<usize>
+    ensures place { result ≡ position (λ b. b == line_feed) bytes.now }
+    ensures bound { IfSome result (λ k. k < length bytes.now) }
+{
+    bytes.iter().position(|b| *b == LINE_FEED)
 }
 
 // Puts the bytes from `from` on, through the first line feed, behind the first `len` bytes of the line, as many as there is room for: so a line
@@ -125,25 +119,24 @@ fn put(out: &mut [u8], used: usize, text: &[u8]) -> usize
 pub fn pull(line: &mut [u8], len: usize, bytes: &[u8], from: usize) -> Pulled
     ensures { (result ≡ spec.pulled line.old len (drop from bytes.now) from) × (line.new ≡ spec.kept line.old len (spec.through (drop from bytes.now))) }
 {
-    let mut end = len;
-    let mut next = from;
-    while next < bytes.len() {
-        let b = bytes[next];
-        next += 1;
-        end = push(line, end, b);
-        let ends = b == LINE_FEED;
-        if ends {
-            return Pulled {
-                len: end,
-                next,
-                whole: true,
-            };
-        }
-    }
-    Pulled {
-        len: end,
-        next,
-        whole: false,
+    let Some(rest) = bytes.get(from..) else {
+        return Pulled {
+            len,
+            next: from,
+            whole: false,
+        };
+    };
+    match line_end(rest) {
+        Some(k) => Pulled {
+            len: put(line, len, &rest[..k + 1]),
+            next: from + k + 1,
+            whole: true,
+        },
+        None => Pulled {
+            len: put(line, len, rest),
+            next: from + rest.len(),
+            whole: false,
+        },
     }
 }
 
@@ -152,13 +145,11 @@ fn put_decimal(bytes: &mut [u8], at: usize, n: u8) -> usize
     requires { at + 3 ≤ length bytes.old }
     ensures { (result ≡ at + length (spec.decimal n)) × (bytes.new ≡ sets bytes.old at (spec.decimal n)) }
 {
-    let one = n < 10;
-    if one {
+    if n < 10 {
         bytes[at] = ZERO + n;
         return at + 1;
     }
-    let two = n < 100;
-    if two {
+    if n < 100 {
         bytes[at] = ZERO + n / 10;
         bytes[at + 1] = ZERO + n % 10;
         return at + 2;

@@ -4,14 +4,14 @@ use native.Mathlib.Omega.{arith}
 use Rattle.lines.proofs.Turns.{put_turn, put_end}
 use Rattle.lines.proofs.put.Goals as goal
 
-pub loop-i-preserved : goal.loop-i-preserved
-loop-i-preserved c =
-    let turn = c.loop-i in
-    let t = put_turn turn.out turn.end c.args.text.now turn.i (omega arith) in
+pub loop-b-preserved : goal.loop-b-preserved
+loop-b-preserved c =
+    let turn = c.loop-b in
+    let t = put_turn turn.out turn.end c.args.text.now turn.b-index (omega arith) in
     (search rules, cc t.0, cc t.1)
 
 pub returns : goal.returns
 returns c =
-    let turn = c.loop-i in
-    let t = put_end turn.out turn.end c.args.text.now turn.i (omega arith) in
+    let turn = c.loop-b in
+    let t = put_end turn.out turn.end c.args.text.now turn.b-index (omega arith) in
     (cc t.0, cc t.1)

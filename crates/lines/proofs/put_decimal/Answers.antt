@@ -14,16 +14,16 @@ add_two n = omega arith
 pub overflow_add-bytes : goal.overflow_add-bytes
 overflow_add-bytes c = omega arith
 
-pub returns-then-one : goal.returns-then-one
+pub returns-then-n-lt10 : goal.returns-then-n-lt10
 unfolding decimal
-returns-then-one c = rw (lt-ltb _ _ c.if-one.true) (refl, refl)
+returns-then-n-lt10 c = rw (lt-ltb _ _ c.if-n-lt10.true) (refl, refl)
 
-pub bounds-bytes-at-then-two-2 : goal.bounds-bytes-at-then-two-2
-bounds-bytes-at-then-two-2 c = simp length-set (omega arith)
+pub bounds-bytes-at-then-n-lt100-2 : goal.bounds-bytes-at-then-n-lt100-2
+bounds-bytes-at-then-n-lt100-2 c = simp length-set (omega arith)
 
-pub returns-then-two : goal.returns-then-two
+pub returns-then-n-lt100 : goal.returns-then-n-lt100
 unfolding decimal
-returns-then-two c = rw (le-ltb _ _ c.if-one.false, lt-ltb _ _ c.if-two.true) (refl, rw (add-one c.args.at))
+returns-then-n-lt100 c = rw (le-ltb _ _ c.if-n-lt10.false, lt-ltb _ _ c.if-n-lt100.true) (refl, rw (add-one c.args.at))
 
 pub bounds-bytes-at-3 : goal.bounds-bytes-at-3
 bounds-bytes-at-3 c = simp length-set (omega arith)
@@ -33,4 +33,4 @@ bounds-bytes-at-4 c = simp length-set (omega arith)
 
 pub returns : goal.returns
 unfolding decimal
-returns c = rw (le-ltb _ _ c.if-one.false, le-ltb _ _ c.if-two.false) (refl, rw (add-one c.args.at, add_two c.args.at))
+returns c = rw (le-ltb _ _ c.if-n-lt10.false, le-ltb _ _ c.if-n-lt100.false) (refl, rw (add-one c.args.at, add_two c.args.at))
