@@ -72,10 +72,8 @@ fn conclude(r: Roster, own: u8, s: &mut State, out: &mut [u8]) -> usize
     }
     let proposed = proposal::propose(
         words::LIMIT,
-        &s.proven.words,
-        &s.proven.counts,
-        &s.held.words,
-        &s.held.counts,
+        s.proven.rows(),
+        s.held.rows(),
         s.reported,
         r.n,
         s.pending.commands(),

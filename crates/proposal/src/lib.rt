@@ -7,15 +7,16 @@ ghost use Rattle.proposal.specs.Proposal as spec;
 ghost use Rattle.proposal.specs.Code.Work.{Begins};
 
 use history::History;
+use table::Rows;
 
 // The history of a site's report, as the part of the words that it is; an empty part where the site has not reported.
-fn report<'a>(words: &'a [u64], counts: &'a [u8], reported: u16, site: u8) -> &'a [u64]
-    ensures { result.now ≡ spec.report words.now counts.now reported site }
+fn report<'a>(rows: Rows<'a>, reported: u16, site: u8) -> &'a [u64]
+    ensures { result.now ≡ spec.report rows.entry.words.now rows.entry.counts.now reported site }
 {
     if roster::contains(reported, site) {
-        table::row(words, counts, site as usize)
+        rows.row(site as usize)
     } else {
-        &words[..0]
+        &[]
     }
 }
 
@@ -27,81 +28,63 @@ fn longer<'a>(g: &'a [u64], h: &'a [u64]) -> &'a [u64]
 }
 
 // The longest history that the sites below n reported, of equals the lowest site's, as the part of the words that it is.
-fn longest<'a>(words: &'a [u64], counts: &'a [u8], reported: u16, n: u8) -> &'a [u64]
-    ensures { result.now ≡ spec.longest_to n (spec.report words.now counts.now reported) }
+fn longest<'a>(rows: Rows<'a>, reported: u16, n: u8) -> &'a [u64]
+    ensures { result.now ≡ spec.longest_to n (spec.report rows.entry.words.now rows.entry.counts.now reported) }
 {
     if n == 0 {
-        return &words[..0];
+        return &[];
     }
     let last = n - 1;
-    let best = longest(words, counts, reported, last);
-    longer(best, report(words, counts, reported, last))
+    let best = longest(rows, reported, last);
+    longer(best, report(rows, reported, last))
 }
 
 // Appends to the first `count` words of work the histories that the sites below n reported, by rising site, up to the end of work. Answers how
 // many words there are then.
-fn gather<'a>(
-    work: &mut [u64],
-    count: usize,
-    words: &'a [u64],
-    counts: &'a [u8],
-    reported: u16,
-    n: u8,
-) -> usize
+fn gather(work: &mut [u64], count: usize, rows: Rows, reported: u16, n: u8) -> usize
     requires { count ≤ length work.old }
-    ensures { Begins (length work.old) work.new result (spec.filled_to (length work.old) n (spec.report words.now counts.now reported) (take count work.old)) }
+    ensures { Begins (length work.old) work.new result (spec.filled_to (length work.old) n (spec.report rows.entry.words.now rows.entry.counts.now reported) (take count work.old)) }
 {
     let mut len = count;
     for site in 0..n {
-        len = merge::append(work, len, report(words, counts, reported, site));
+        len = merge::append(work, len, report(rows, reported, site));
     }
     len
 }
 
 // Puts into work, up to its end, g, then the histories that the sites below n hold, by rising site, then what is pending. Answers how many words
 // there are then.
-fn assemble<'a>(
+fn assemble(
     work: &mut [u64],
     g: &[u64],
-    held: &'a [u64],
-    held_counts: &'a [u8],
+    held: Rows,
     reported: u16,
     n: u8,
     pending: &[u64],
 ) -> usize
-    ensures { Begins (length work.old) work.new result (spec.filled (length work.old) (spec.filled_to (length work.old) n (spec.report held.now held_counts.now reported) g.now) pending.now) }
+    ensures { Begins (length work.old) work.new result (spec.filled (length work.old) (spec.filled_to (length work.old) n (spec.report held.entry.words.now held.entry.counts.now reported) g.now) pending.now) }
 {
     let front = history::first(g, work.len());
     history::fill(work, front);
-    let some = gather(work, front.len(), held, held_counts, reported, n);
+    let some = gather(work, front.len(), held, reported, n);
     merge::append(work, some, pending)
 }
 
 // The proposal of n sites' reports, of which these have come, and of what is pending, under a limit; one over 32 counts as 32.
-pub fn propose<'a>(
+pub fn propose(
     limit: u8,
-    proven: &'a [u64],
-    proven_counts: &'a [u8],
-    held: &'a [u64],
-    held_counts: &'a [u8],
+    proven: Rows,
+    held: Rows,
     reported: u16,
     n: u8,
-    pending: &'a [u64],
+    pending: &[u64],
 ) -> History
-    ensures { result ≡ stored (spec.proposal (min limit capacity) n (spec.report proven.now proven_counts.now reported) (spec.report held.now held_counts.now reported) pending.now) }
+    ensures { result ≡ stored (spec.proposal (min limit capacity) n (spec.report proven.entry.words.now proven.entry.counts.now reported) (spec.report held.entry.words.now held.entry.counts.now reported) pending.now) }
 {
     let most = (limit as usize).min(words::CAPACITY);
-    let best = longest(proven, proven_counts, reported, n);
+    let best = longest(proven, reported, n);
     let mut work = [0u64; words::CAPACITY];
-    let all = assemble(
-        &mut work[..most],
-        best,
-        held,
-        held_counts,
-        reported,
-        n,
-        pending,
-    );
+    let all = assemble(&mut work[..most], best, held, reported, n, pending);
     history::put_in_order(&mut work[..all]);
     History::of(&work[..all])
 }

@@ -16,19 +16,56 @@ pub struct Table {
     pub words: [u64; 512],
 }
 
-// History `site` of the words and the counts, as the part of the words that it is; an empty part where it is out of range.
-pub fn row<'a>(words: &'a [u64], counts: &'a [u8], site: usize) -> &'a [u64]
-    ensures { result.now ≡ spec.row words.now counts.now site }
-{
-    if counts.len() <= site || words.len() / words::CAPACITY <= site {
-        return &words[..0];
+// Rows of histories where they lie: 32 words each, one after the other, and a count for each.
+#[derive(Clone, Copy)]
+pub struct Rows<'a> {
+    pub words: &'a [u64],
+    pub counts: &'a [u8],
+}
+
+impl<'a> Rows<'a> {
+    // History `site`, as the part of the words that it is; an empty part where it is out of range.
+    pub fn row(self, site: usize) -> &'a [u64]
+        ensures { result.now ≡ spec.row self.entry.words.now self.entry.counts.now site }
+    {
+        let Rows { words, counts } = self;
+        if counts.len() <= site || words.len() / words::CAPACITY <= site {
+            return &words[..0];
+        }
+        let n = counts[site] as usize;
+        if words::CAPACITY < n {
+            return &words[..0];
+        }
+        let start = words::CAPACITY * site;
+        &words[start..start + n]
     }
-    let n = counts[site] as usize;
-    if words::CAPACITY < n {
-        return &words[..0];
+
+    // Whether row `site` is one that lent state may hold, under a limit and for n sites. An empty one is, and so is one without a count.
+    fn row_valid(self, limit: u8, site: usize, n: u8) -> bool
+        ensures { result ≡ spec.valid_row limit n self.entry.words.now self.entry.counts.now site }
+    {
+        if site >= self.counts.len() {
+            return true;
+        }
+        let count = self.counts[site];
+        if count == 0 {
+            return true;
+        }
+        if limit < count {
+            return false;
+        }
+        if n as usize <= site {
+            return false;
+        }
+        history::valid(self.row(site))
     }
-    let start = words::CAPACITY * site;
-    &words[start..start + n]
+
+    // Whether every row of a table is one that lent state may hold, under a limit and for n sites.
+    pub fn valid(self, limit: u8, n: u8) -> bool
+        ensures { result ≡ all_to sites (spec.valid_row limit n self.entry.words.now self.entry.counts.now) }
+    {
+        (0..Table::SITES).all(|i| self.row_valid(limit, i, n))
+    }
 }
 
 // Stores h as row `site` of a table's words and counts; leaves both where there is no such row, where h is too long for one, or where one of
@@ -48,33 +85,6 @@ pub fn store(words: &mut [u64], counts: &mut [u8], site: usize, h: &[u64])
     history::fill(&mut words[at..at + words::CAPACITY], h);
 }
 
-// Whether row `site` is one that lent state may hold, under a limit and for n sites. An empty one is, and so is one without a count.
-fn row_valid<'a>(limit: u8, words: &'a [u64], counts: &'a [u8], site: usize, n: u8) -> bool
-    ensures { result ≡ spec.valid_row limit n words.now counts.now site }
-{
-    if site >= counts.len() {
-        return true;
-    }
-    let count = counts[site];
-    if count == 0 {
-        return true;
-    }
-    if limit < count {
-        return false;
-    }
-    if n as usize <= site {
-        return false;
-    }
-    history::valid(row(words, counts, site))
-}
-
-// Whether every row of a table's words and counts is one that lent state may hold, under a limit and for n sites.
-pub fn rows_valid<'a>(limit: u8, words: &'a [u64], counts: &'a [u8], n: u8) -> bool
-    ensures { result ≡ all_to sites (spec.valid_row limit n words.now counts.now) }
-{
-    (0..Table::SITES).all(|i| row_valid(limit, words, counts, i, n))
-}
-
 impl Table {
     // The most sites, one row for each.
     pub const SITES: usize = 16;
@@ -89,11 +99,21 @@ impl Table {
         }
     }
 
+    // The rows.
+    pub fn rows(&self) -> Rows<'_>
+        ensures { (result.words.now ≡ self.now.words) × (result.counts.now ≡ self.now.counts) }
+    {
+        Rows {
+            words: &self.words,
+            counts: &self.counts,
+        }
+    }
+
     // History `site`; an empty one where it is out of range.
     pub fn row(&self, site: usize) -> &[u64]
         ensures { result.now ≡ spec.row_of self.now site }
     {
-        row(&self.words, &self.counts, site)
+        self.rows().row(site)
     }
 
     // Stores h as row `site`; the table stays where there is no such row, or h is too long for one.
@@ -109,7 +129,7 @@ impl Table {
         ensures valid { result ≡ spec.valid_table limit n self.now }
         ensures sized { Sized self.now }
     {
-        rows_valid(limit, &self.words, &self.counts, n)
+        self.rows().valid(limit, n)
     }
 
     // Empties every row.

@@ -11,5 +11,5 @@ returns-then-n-eq0 t c = rw c.if-n-eq0.true (sym (longest_zero _))
 
 pub returns : goal.returns
 returns t c =
-    let reports = report c.args.words.now c.args.counts.now c.args.reported in
+    let reports = report c.args.rows.words.now c.args.rows.counts.now c.args.reported in
     c.longer.ensures ∙ ap₂ longer c.longest-best.ensures c.report.ensures ∙ sym (longest_next c.args.n reports (omega arith))

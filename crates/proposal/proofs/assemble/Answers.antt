@@ -13,6 +13,6 @@ gather-some-requires c = rw (c.fill.ensures, length_padded, c.first-front.ensure
 pub returns : goal.returns
 returns c = let given = c.args in
     let append-call = c.append in
-    assembled_all (length given.work.now) given.n (report given.held.now given.held_counts.now given.reported) given.pending.now given.g.now
+    assembled_all (length given.work.now) given.n (report given.held.words.now given.held.counts.now given.reported) given.pending.now given.g.now
     c.first-front.result.now c.first-front.ensures c.fill.new.dst c.fill.ensures c.gather-some.ensures
     append-call.result append-call.new.buf append-call.ensures.0 append-call.ensures.1 append-call.auto.buf

@@ -5,4 +5,4 @@ use Rattle.proposal.specs.Code.Work.{Begins}
 use Rattle.proposal.proofs.gather.Given as goal
 
 abbrev pub invariant-loop-site : goal.invariant-loop-site
-invariant-loop-site l = Begins (length l.initial.work) l.work l.len (filled_to (length l.initial.work) l.site (report l.words l.counts l.reported) (take l.count l.initial.work))
+invariant-loop-site l = Begins (length l.initial.work) l.work l.len (filled_to (length l.initial.work) l.site (report l.rows.words.now l.rows.counts.now l.reported) (take l.count l.initial.work))

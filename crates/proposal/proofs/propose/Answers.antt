@@ -29,8 +29,8 @@ slice_bounds-of-end c = sym
 pub returns : goal.returns
 returns c = let given = c.args in
     let limit = min given.limit capacity in
-    let proven = report given.proven.now given.proven_counts.now given.reported in
-    let held = report given.held.now given.held_counts.now given.reported in
+    let proven = report given.proven.words.now given.proven.counts.now given.reported in
+    let held = report given.held.words.now given.held.counts.now given.reported in
     let pending = given.pending.now in
     c.of.ensures
     ∙ ap stored

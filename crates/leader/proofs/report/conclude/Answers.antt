@@ -15,7 +15,7 @@ returns-then-not-reaches c = rw (← c.quorum.ensures, sym c.reaches.ensures ∙
 
 pub returns-then-is_empty : goal.returns-then-is_empty
 returns-then-is_empty c = rw (
-  concludes c.args.r c.args.own c.args.s.now (rw (← c.quorum.ensures) (sym c.reaches.ensures ∙ c.if-not-reaches.false)) _ _ _ c.commands.ensures c.propose-proposed.ensures c.commands-h.ensures,
+  concludes c.args.r c.args.own c.args.s.now (rw (← c.quorum.ensures) (sym c.reaches.ensures ∙ c.if-not-reaches.false)) _ _ _ c.commands.ensures (rw (← c.rows.ensures.0, ← c.rows.ensures.1, ← c.rows-2.ensures.0, ← c.rows-2.ensures.1) c.propose-proposed.ensures) c.commands-h.ensures,
   sym c.is_empty.ensures ∙ c.if-is_empty.true,
   c.remaining-s.ensures,
   c.commands-2.ensures,
@@ -28,7 +28,7 @@ returns c = let s = c.args.s.now in
     let sent : Handed (sends (message 5 c.args.own s.view s.ballot (record { 0 = 0 }) 0 (take capacity h) [])) c.send.result c.args.out.now c.send.new.out = search rules in
     let whole = rw (take_all capacity h short) at sent in
     rw (
-      concludes c.args.r c.args.own s (rw (← c.quorum.ensures) (sym c.reaches.ensures ∙ c.if-not-reaches.false)) _ _ _ c.commands.ensures c.propose-proposed.ensures c.commands-h.ensures,
+      concludes c.args.r c.args.own s (rw (← c.quorum.ensures) (sym c.reaches.ensures ∙ c.if-not-reaches.false)) _ _ _ c.commands.ensures (rw (← c.rows.ensures.0, ← c.rows.ensures.1, ← c.rows-2.ensures.0, ← c.rows-2.ensures.1) c.propose-proposed.ensures) c.commands-h.ensures,
       sym c.is_empty.ensures ∙ c.if-is_empty.false,
       c.remaining-s.ensures,
       c.commands-2.ensures,

@@ -1,16 +1,16 @@
--- `table::row_valid` meets its contract: each return is an arm of the definition, under the tests that led there.
+-- `table::Rows::row_valid` meets its contract: each return is an arm of the definition, under the tests that led there.
 use mathlib.Core.Path.{sym}
 use borrow.Author.Tests.{lt-leb, le-leb, lt-ltb, le-ltb, ne_eqb}
 use lib.ListN.{get_or-eq_default}
 use Rattle.table.specs.Table.{valid_row}
 use Rattle.table.specs.ValidLaws.{valid_row_none}
-use Rattle.table.proofs.row_valid.Goals as goal
+use Rattle.table.proofs.Rows.row_valid.Goals as goal
 
-pub returns-then-site-counts : goal.returns-then-site-counts
-returns-then-site-counts c = sym (valid_row_none _ _ c.args.words.now c.args.counts.now c.args.site (get_or-eq_default c.args.counts.now 0 c.if-site-counts.true))
+pub returns-then-site-self : goal.returns-then-site-self
+returns-then-site-self c = sym (valid_row_none _ _ c.args.self.words.now c.args.self.counts.now c.args.site (get_or-eq_default c.args.self.counts.now 0 c.if-site-self.true))
 
 pub returns-then-count-eq0 : goal.returns-then-count-eq0
-returns-then-count-eq0 c = sym (valid_row_none _ _ c.args.words.now c.args.counts.now c.args.site c.if-count-eq0.true)
+returns-then-count-eq0 c = sym (valid_row_none _ _ c.args.self.words.now c.args.self.counts.now c.args.site c.if-count-eq0.true)
 
 pub returns-then-limit-count : goal.returns-then-limit-count
 unfolding valid_row
