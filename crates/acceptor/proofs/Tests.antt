@@ -1,7 +1,7 @@
 -- What the code's tests say in the words of the definitions.
 use mathlib.Core.Path.{◌≡◌, refl, sym, ap, subst, ◌∙◌}
-use mathlib.Core.Bool.{Bool, true, false, ◌&&◌}
-use mathlib.Core.List.{List, ◌++◌}
+use mathlib.Core.Bool.{Bool, true, false, not, ◌&&◌}
+use mathlib.Core.List.{List, ◌∷◌, ◌++◌}
 use Prim.Native.Nat.{ℕ, ◌≤◌}
 use native.Mathlib.Omega.{arith}
 use borrow.Author.Tests.{not-false, ltb-false}
@@ -20,9 +20,9 @@ use Rattle.merge.specs.AppendingLaws.{appended_in_work, take_appended, append_bo
 use Rattle.merge.specs.Appending.{overflows}
 use Rattle.table.specs.declared.Table.{Table}
 use Rattle.refusal.specs.declared.Refusal.{Refusal}
-use Rattle.refusal.specs.declared.Refusal.TheVariants.{Config, Contradiction, Full}
+use Rattle.refusal.specs.declared.Refusal.TheVariants.{Config, Form, Contradiction, Full}
 use Rattle.refusal.specs.Refusal.{Answer, Accepted, Refused}
-use Rattle.refusal.specs.Rules.{answer}
+use Rattle.refusal.specs.Rules.{Rule, ◌gives◌, answer}
 use Rattle.refusal.specs.AnswerLaws.{judged_refused, judged_accepted, answer_none}
 use Rattle.refusal.specs.JudgedLaws.{NoneHolds, test_of, no_test}
 use Rattle.frame.specs.declared.Heading.{Heading}
@@ -33,8 +33,8 @@ use Rattle.site.specs.Site.{seated, valid_record}
 use Rattle.site.specs.SiteLaws.{seated_is}
 use Rattle.site.specs.Reply.{Reply, Outcome, Handed, refuse, sends}
 use Rattle.acceptor.specs.declared.State.{State}
-use Rattle.acceptor.specs.Acceptor.{kind_of, taken, received, held_of, proven_of, lengthened, config, rules, p2b, certificate_of, convinces, proves, storing, proving, store, accepted, step}
-use Rattle.acceptor.specs.Code.Effects.{rules_on, Performable, Done}
+use Rattle.acceptor.specs.Acceptor.{kind_of, taken, received, held_of, proven_of, lengthened, config, rules_in, rules, p2b, certificate_of, convinces, proves, storing, proving, store, accepted, step}
+use Rattle.acceptor.specs.Code.Effects.{Performable, Done}
 
 -- the heading of which each field is 0
 abbrev pub blank : Heading
@@ -80,6 +80,10 @@ module _ (r : Roster) (own : ℕ) (s : State) (t : Table) (h out : List ℕ) (ma
   stores_and_proves g n l d = let yes = tested ∙ g in (rw (yes, ← e, d.0), rw (yes, ← e) d.1)
 
 -- ---- a line
+
+-- all checks of a line of which this was read
+abbrev pub rules_on : Roster → ℕ → ℕ → ViewRecord → State → Reading → List Rule
+rules_on r own room v s d = config r own room v s gives Config ∷ not d.found gives Form ∷ rules_in r v s d.frame
 
 -- what CONFIG lets pass
 pub record Fit (r : Roster) (s : State) : Type 0 where

@@ -72,8 +72,7 @@ fn store(r: Roster, own: u8, s: &mut State, site: u8, h: &[u64], out: &mut [u8])
 {
     s.verified.store(site as usize, h);
     let mask = certify(&s.verified, r.n, h);
-    let proves = convinces(r, s, mask, h);
-    if !proves {
+    if !convinces(r, s, mask, h) {
         return 0;
     }
     s.proven.set(h);

@@ -1,21 +1,13 @@
--- The answer first, then the effect: what the code's checks answer of what was read, what they let pass, and that an effect is done.
-use Rattle.std.specs.Prelude.{◌≡◌, false, not, List, ◌∷◌, ℕ, ◌≤◌, length}
+-- What the checks let pass, and that an effect is done.
+use Rattle.std.specs.Prelude.{◌≡◌, false, List, ℕ, ◌≤◌, length}
 use Rattle.words.specs.Sizes.{capacity}
 use Rattle.roster.specs.declared.Roster.{Roster}
-use Rattle.refusal.specs.declared.Refusal.TheVariants.{Config, Form}
-use Rattle.refusal.specs.Rules.{Rule, ◌gives◌}
 use Rattle.merge.specs.Merge.{appended}
 use Rattle.content.specs.Content.{contradicts}
 use Rattle.frame.specs.declared.Frame.{Frame}
-use Rattle.frame.specs.Format.{Reading}
-use Rattle.site.specs.declared.ViewRecord.{ViewRecord}
 use Rattle.site.specs.Reply.{Reply, Outcome, buffer}
 use Rattle.acceptor.specs.declared.State.{State}
-use Rattle.acceptor.specs.Acceptor.{PROPOSE, VERIFY, kind_of, carried, held_of, proven_of, entry_of, config, rules_in, outcome}
-
--- all checks of a line of which this was read
-abbrev pub rules_on : Roster → ℕ → ℕ → ViewRecord → State → Reading → List Rule
-rules_on r own room v s d = config r own room v s gives Config ∷ not d.found gives Form ∷ rules_in r v s d.frame
+use Rattle.acceptor.specs.Acceptor.{PROPOSE, VERIFY, kind_of, carried, held_of, proven_of, entry_of, outcome}
 
 -- what the checks let pass: at most 16 sites, at most 32 commands in each history, and that a PROPOSE leaves, and no VERIFY that contradicts its
 -- sender's entry

@@ -8,14 +8,14 @@ use Rattle.acceptor.specs.Acceptor.{matches, certificate_of, convinces}
 use Rattle.acceptor.proofs.Tests.{blank, stores_only, stores_and_proves}
 use Rattle.acceptor.proofs.verify.store.Goals as goal
 
-pub returns-then-not-proves : goal.returns-then-not-proves
+pub returns-then-not-convinces : goal.returns-then-not-convinces
 unfolding certificate_of convinces
-returns-then-not-proves c =
+returns-then-not-convinces c =
     let s = c.args.s.now in
     let h = c.args.h.now in
     let t = stored_at s.verified c.args.site h in
     let mask : c.certify-mask.result ≡ certificate_of c.args.r t h = c.certify-mask.ensures ∙ ap (λ (t : Table). mask_to c.args.r.n (matches t h)) c.store.ensures in
-    rw c.store.ensures (stores_only c.args.r c.args.own s t h c.args.out.now c.certify-mask.result c.convinces-proves.result mask c.convinces-proves.ensures c.if-not-proves.true)
+    rw c.store.ensures (stores_only c.args.r c.args.own s t h c.args.out.now c.certify-mask.result c.convinces.result mask c.convinces.ensures c.if-not-convinces.true)
 
 pub returns : goal.returns
 unfolding certificate_of convinces
@@ -27,4 +27,4 @@ returns c =
     let zeros : c.default.result ≡ blank = search rules in
     let handed = rw (zeros, take_all 32 h c.requires.1) at c.send.ensures in
     rw (c.set.ensures, c.store.ensures)
-    (stores_and_proves c.args.r c.args.own s t h c.args.out.now c.certify-mask.result c.convinces-proves.result mask c.convinces-proves.ensures c.if-not-proves.false _ _ handed)
+    (stores_and_proves c.args.r c.args.own s t h c.args.out.now c.certify-mask.result c.convinces.result mask c.convinces.ensures c.if-not-convinces.false _ _ handed)
