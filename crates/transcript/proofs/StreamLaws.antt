@@ -1,12 +1,11 @@
 -- Why a call of `feed` or `finish` puts that in the output, and leaves that to do.
-use Rattle.std.specs.Prelude.{ℕ, ◌+◌, ◌-◌, ◌*◌, ◌≤◌, ◌<◌, ◌≡◌, refl, ◌⊎◌, true, false}
+use Rattle.std.specs.Prelude.{ℕ, ◌+◌, ◌-◌, ◌*◌, ◌≤◌, ◌≡◌, refl, ◌⊎◌, true, false}
 use native.Mathlib.Omega.{arith}
 use Rattle.std.proofs.Common.{sym, ap₂, ◌∙◌, inl, inr, length-append, drop-drop, le-leb, leb-true}
 use Rattle.std.proofs.Math.Path.{ap}
 use mathlib.Core.List.{List, [], ◌∷◌, ◌++◌}
 use Rattle.std.proofs.Math.ListN.{length, take, drop, length-drop}
 use Rattle.std.proofs.Math.Seq.{length-sets}
-use Rattle.std.proofs.lemmas.Bool.{lt-leb}
 use Rattle.basics.specs.Bools.{true_or_false}
 use Rattle.lines.specs.Lines.{kept, kept_length, longest_answer}
 use Rattle.lines.specs.BufferLaws.{kept_all, length_all, all_front}
@@ -17,17 +16,13 @@ use Rattle.transcript.specs.StreamLaws.{writes_short, last_short, these, EachFee
 -- ---- calls of `feed`
 
 -- there is room or there is none
-room_for : (room : ℕ) → has_room room ≡ true → longest_answer ≤ room
+pub room_for : (room : ℕ) → has_room room ≡ true → longest_answer ≤ room
 unfolding has_room
 room_for room e = leb-true longest_answer room e
 
 pub has_room_lem : (room : ℕ) → longest_answer ≤ room → has_room room ≡ true
 unfolding has_room
 has_room_lem room h = le-leb longest_answer room h
-
-pub no_room : (room : ℕ) → room < longest_answer → has_room room ≡ false
-unfolding has_room
-no_room room h = lt-leb longest_answer room h
 
 -- what is written for the bytes that are taken has room
 taken_fits : (p : Progress) (room : ℕ) (bs : List ℕ) → length (written p (taken p room bs)) ≤ room

@@ -25,9 +25,9 @@ use Rattle.lines.specs.BufferLaws.{sets_append, kept_none, length_none, kept_all
 use Rattle.lines.specs.AnswerLaws.{line_short}
 use Rattle.transcript.specs.declared.Stream.{Stream}
 use Rattle.transcript.specs.Transcript.{said}
-use Rattle.transcript.specs.Stream.{Progress, at, keeping, ended, answer, next, writes, after, written, last, taken, FeedOutcome, feed_outcome, feed}
+use Rattle.transcript.specs.Stream.{Progress, at, keeping, ended, answer, next, writes, after, written, last, has_room, taken, FeedOutcome, feed_outcome, feed}
 use Rattle.transcript.specs.StreamLaws.{after_append, written_append, keeping_append, keeping_none}
-use Rattle.transcript.proofs.StreamLaws.{has_room_lem, no_room}
+use Rattle.transcript.proofs.StreamLaws.{has_room_lem}
 
 -- ---- the bytes of a line
 
@@ -109,12 +109,12 @@ taken_empty : (p : Progress) (room : ℕ) → taken p room [] ≡ []
 unfolding taken
 taken_empty p room = refl
 
-taken_full : (p : Progress) (room : ℕ) (bs : List ℕ) → room < longest_answer → taken p room bs ≡ []
+taken_full : (p : Progress) (room : ℕ) (bs : List ℕ) → has_room room ≡ false → taken p room bs ≡ []
 unfolding taken
-taken_full p room [] h = refl
-taken_full p room (b ∷ bs) h = rw (no_room room h)
+taken_full p room [] e = refl
+taken_full p room (b ∷ bs) e = rw e
 
-taken_none : (p : Progress) (room : ℕ) (bytes : List ℕ) (from : ℕ) → (length bytes ≤ from) ⊎ (room < longest_answer) → taken p room (drop from bytes) ≡ []
+taken_none : (p : Progress) (room : ℕ) (bytes : List ℕ) (from : ℕ) → (length bytes ≤ from) ⊎ (has_room room ≡ false) → taken p room (drop from bytes) ≡ []
 taken_none p room bytes from (inl h) = ap (taken p room) (drop_of_length-le bytes h) ∙ taken_empty p room
 taken_none p room bytes from (inr h) = taken_full p room (drop from bytes) h
 
@@ -177,7 +177,7 @@ module _ (s : Stream) (l out : List ℕ) (used : ℕ) (bytes : List ℕ) (from :
       ∙ ap (Taking p out used from) (sym (taken_through p (length out - used) h bs))
 
   -- without a byte or room, nothing is taken
-  pub stops : (length bytes ≤ from) ⊎ (length out - used < longest_answer)
+  pub stops : (length bytes ≤ from) ⊎ (has_room (length out - used) ≡ false)
       → feed_outcome (record { stream = s; next = from; used = used }) l out ≡ feed s l out used bytes from
   unfolding feed after written
   stops h =

@@ -1,8 +1,10 @@
 // The run of a learner over bytes that arrive in any pieces: the first line is the roster, and each later line is answered by a line of text.
 #![tactic(auto)]
 
-ghost use Rattle.std.specs.Prelude.{◌≡◌};
+ghost use Rattle.std.specs.Prelude.{◌≡◌, ◌-◌, length};
+ghost use Rattle.learner.specs.Learner.{step};
 ghost use Rattle.lines.specs.Lines.{kept, kept_length};
+ghost use Rattle.transcript.specs.Transcript.{said};
 ghost use Rattle.transcript.specs.Stream as spec;
 
 use learner::State;
@@ -40,6 +42,26 @@ impl Stream {
     }
 }
 
+// Makes a step on a line, puts its answer behind the first `used` bytes of the output, and answers how many are in use then.
+fn answer(r: Roster, state: &mut State, line: &[u8], out: &mut [u8], used: usize) -> usize
+    ensures state { state.new ≡ (step r state.old line.now).state }
+    ensures used { result ≡ kept_length out.old used (said (step r state.old line.now)) }
+    ensures out { out.new ≡ kept out.old used (said (step r state.old line.now)) }
+{
+    match learner::step_in_place(r, state, line) {
+        Ok(supporters) => lines::put_answer(out, used, 0, supporters),
+        Err(refusal) => lines::put_answer(out, used, refusal.number(), 0),
+    }
+}
+
+// Whether there is room for the longest answer behind the first `used` bytes.
+#[tactic(auto, unfolding(crate::specs::Stream::has_room))]
+fn has_room(out: &[u8], used: usize) -> bool
+    ensures { result ≡ spec.has_room (length out.now - used) }
+{
+    lines::LONGEST_ANSWER <= lines::room(out, used)
+}
+
 // Takes the bytes from `from` on, as long as the output has room for the longest answer behind the first `used` bytes, and puts the answers there.
 // The line that arrives is kept in `line`, as much of it as there is room for.
 pub fn feed(
@@ -52,40 +74,26 @@ pub fn feed(
 ) -> Fed
     ensures { spec.feed_outcome result line.new out.new ≡ spec.feed s line.old out.old used bytes.now from }
 {
-    let mut roster = s.roster;
-    let mut state = s.state;
-    let mut started = s.started;
-    let mut len = s.len;
+    let mut stream = s;
     let mut next = from;
     let mut end = used;
-    while next < bytes.len() {
-        let full = lines::room(out, end) < lines::LONGEST_ANSWER;
-        if full {
-            break;
-        }
-        let p = lines::pull(line, len, bytes, next);
+    while next < bytes.len() && has_room(out, end) {
+        let p = lines::pull(line, stream.len, bytes, next);
         next = p.next;
-        len = p.len;
-        let whole = p.whole;
-        if whole {
-            if started {
-                let o = learner::step(roster, state, words::first(line, len));
-                state = o.state;
-                end = lines::put_answer(out, end, refusal::number(o.answer), o.supporters);
+        stream.len = p.len;
+        if p.whole {
+            let arrived = words::first(line, p.len);
+            if stream.started {
+                end = answer(stream.roster, &mut stream.state, arrived, out, end);
             } else {
-                roster = lines::roster_of(words::first(line, len));
-                started = true;
+                stream.roster = lines::roster_of(arrived);
+                stream.started = true;
             }
-            len = 0;
+            stream.len = 0;
         }
     }
     Fed {
-        stream: Stream {
-            roster,
-            state,
-            started,
-            len,
-        },
+        stream,
         next,
         used: end,
     }
@@ -96,15 +104,10 @@ pub fn feed(
 pub fn finish(s: Stream, line: &[u8], out: &mut [u8], used: usize) -> usize
     ensures { (result ≡ kept_length out.old used (spec.last (spec.at s line.now))) × (out.new ≡ kept out.old used (spec.last (spec.at s line.now))) }
 {
-    let early = !s.started;
-    if early {
-        return used;
+    let mut state = s.state;
+    if s.started && s.len != 0 {
+        answer(s.roster, &mut state, words::first(line, s.len), out, used)
+    } else {
+        used
     }
-    let len = s.len;
-    let none = len == 0;
-    if none {
-        return used;
-    }
-    let o = learner::step(s.roster, s.state, words::first(line, len));
-    lines::put_answer(out, used, refusal::number(o.answer), o.supporters)
 }

@@ -4,14 +4,14 @@ use Rattle.lines.proofs.Digits.{digit_small, byte_some}
 use Rattle.lines.proofs.byte.Goals as goal
 
 pub overflow_mul-result : goal.overflow_mul-result
-overflow_mul-result c = omega (arith, digit_small c.args.a c.in_ok-digit.field-0 c.in_ok-digit.ensures)
+overflow_mul-result c = omega (arith, digit_small _ _ c.in_ok-digit.ensures)
 
 pub overflow_add-result : goal.overflow_add-result
 overflow_add-result c =
     omega (
       arith,
-      digit_small c.args.a c.in_ok-digit.field-0 c.in_ok-digit.ensures,
-      digit_small c.args.b c.in_ok-digit-2.field-0 c.in_ok-digit-2.ensures,
+      digit_small _ _ c.in_ok-digit.ensures,
+      digit_small _ _ c.in_ok-digit-2.ensures,
     )
 
 pub returns : goal.returns

@@ -9,7 +9,7 @@ abbrev pub invariant-loop-next : goal.invariant-loop-next
 invariant-loop-next l =
     (length l.line ≡ length l.initial.line)
     × (length l.out ≡ length l.initial.out)
-    × (feed (record { roster = l.roster; state = l.state; started = l.started; len = l.len }) l.line l.out l.end l.bytes l.next
+    × (feed l.stream l.line l.out l.end l.bytes l.next
     ≡ feed l.fn.s l.initial.line l.initial.out l.used l.bytes l.from)
 
 abbrev pub decreases-loop-next : goal.decreases-loop-next

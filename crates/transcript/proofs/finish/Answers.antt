@@ -1,24 +1,25 @@
 -- `transcript::finish` meets its contract: before the first line has ended, or where nothing is kept, nothing is put; else the answer to what is kept.
 use mathlib.Core.Path.{ap, ◌∙◌}
+use mathlib.Core.List.{List}
 use Prim.Native.Nat.{ℕ}
-use borrow.Author.Tests.{not-true, not-false}
 use Rattle.learner.specs.Learner.{step}
-use Rattle.lines.specs.Lines.{answer_line, kept, kept_length}
+use Rattle.lines.specs.Lines.{kept, kept_length}
 use Rattle.transcript.specs.Transcript.{said}
 use Rattle.transcript.proofs.Turns.{before_start, between_lines, unfinished}
+use Rattle.transcript.proofs.finish.Goals.{else-s-via-then-s+else-s-ne0, else-s-via-else-s}
 use Rattle.transcript.proofs.finish.Goals as goal
 
-pub returns-then-early : goal.returns-then-early
-returns-then-early c = before_start c.args.s c.args.line.now c.args.out.now c.args.used (not-true c.args.s.started c.if-early.true)
-
-pub returns-then-none : goal.returns-then-none
-returns-then-none c = between_lines c.args.s c.args.line.now c.args.out.now c.args.used c.if-none.true
-
-pub returns : goal.returns
-returns c =
+pub returns-then-s-ne0 : goal.returns-then-s-ne0
+returns-then-s-ne0 c =
     let given = c.args in
     let s = given.s in
-    let o = c.step-o.result in
-    let k = c.step-o.ensures ∙ ap (step s.roster s.state) c.first.ensures in
-    let n = ap (λ (n : ℕ). answer_line n o.supporters) c.number.ensures ∙ ap said k ∙ unfinished s given.line.now (not-false s.started c.if-early.false) c.if-none.false in
-    (c.put_answer.ensures.0 ∙ ap (kept_length given.out.now given.used) n, c.put_answer.ensures.1 ∙ ap (kept given.out.now given.used) n)
+    let n = ap (λ (l : List ℕ). said (step s.roster s.state l)) c.first.ensures ∙ unfinished s given.line.now c.if-s.true c.if-s-ne0.true in
+    (c.answer.ensures.used ∙ ap (kept_length given.out.now given.used) n, c.answer.ensures.out ∙ ap (kept given.out.now given.used) n)
+
+pub returns-else-s : goal.returns-else-s
+returns-else-s c =
+    let given = c.args in
+    elim c.else-s.branch [
+      | else-s-via-then-s+else-s-ne0 w ↦ between_lines given.s given.line.now given.out.now given.used w.if-s-ne0.false
+      | else-s-via-else-s w ↦ before_start given.s given.line.now given.out.now given.used w.if-s.false
+    ]
