@@ -26,8 +26,8 @@ use Rattle.merge.specs.declared.Unmerged.TheVariants as Unmerged
 use Rattle.merge.specs.Merged.{Merged, given}
 use Rattle.std.specs.Prelude.{Ok, Err}
 use Rattle.table.specs.declared.Table.{Table}
-use Rattle.table.specs.Table.{row_of, stored_at, stored_in}
-use Rattle.table.specs.TableLaws.{Sized, row_stored_other, stored_in_lem}
+use Rattle.table.specs.Table.{row_of}
+use Rattle.table.specs.TableLaws.{Sized, row_stored_other}
 use Rattle.content.specs.ContentLaws as content
 use Rattle.refusal.specs.declared.Refusal.{Refusal}
 use Rattle.refusal.specs.declared.Refusal.TheVariants.{Config, Sender, Contradiction}
@@ -130,11 +130,6 @@ module _ (r : Roster) (s : State) (z : Sized s.entries) (site : ℕ) (h : List �
   concludes_accepted c t d =
       rw (d, merge_is, supported)
       (sym (judged_accepted (refuse s) (accepted r s site h) (merge_rules (merge_of r (with_vote s.entries site h) s h)) x answer_is (sym g ∙ c)))
-
--- what the code stored, in a table of the right sizes
-pub stored_is : {t u : Table} {i j : ℕ} {g h : List ℕ} → Sized u → t ≡ stored_in u.words u.counts i g → i ≡ j → g ≡ h → t ≡ stored_at u j h
-stored_is {t} {u} {i} {j} {g} {h} z e f k =
-    e ∙ stored_in_lem u.words u.counts i g (omega arith) (omega arith) ∙ ap (λ (x : ℕ). stored_at u x g) f ∙ ap (stored_at u j) k
 
 -- ---- a line: head and w are what was read of it, x is the answer up to the merge, and b tells whether that refuses
 
