@@ -89,8 +89,9 @@ fn for_view_change(line: &[u8]) -> bool {
 
 // A line for the view change.
 fn change(rt: &impl Print, s: &mut Site, line: &[u8], out: &mut [u8]) -> io::Result<()> {
-    let answer = viewchange::step(s.roster, s.own, &mut s.views, line, out);
-    say(rt, answer, out)
+    let o = viewchange::step(s.roster, s.own, s.views, line, out);
+    s.views = o.views;
+    say(rt, o.answer, out)
 }
 
 // A line for the acceptor.

@@ -1,5 +1,6 @@
-// Everything that a C or Rust host calls. The host lends a role's record, and each call is the role's own step on it, which changes it in place; its
-// result is answered in numbers. A slice is passed as a pointer to its first byte and its length.
+// Everything that a C or Rust host calls. The host lends a role's record, and each call is the role's own step on it, which changes it in place; the
+// small view-change record is copied to a step by value and back. What the step answers is given in numbers. A slice is passed as a pointer to its first
+// byte and its length.
 #![tactic(auto)]
 
 ghost use Rattle.std.specs.Prelude.{◌≡◌};
@@ -131,8 +132,9 @@ pub extern "C" fn speckleewe_view_change(
 ) -> Reply
     ensures { view_change_call views.old roster own line.now out.old (views_left result views.new) out.new }
 {
-    let changed = viewchange::step(roster, own, views, line, out);
-    Reply::from(changed)
+    let changed = viewchange::step(roster, own, *views, line, out);
+    *views = changed.views;
+    Reply::from(changed.answer)
 }
 
 // The suspicion of site `own` itself of a view, on the record that the host lends.
@@ -146,8 +148,9 @@ pub extern "C" fn speckleewe_suspicion(
 ) -> Reply
     ensures { suspicion_call views.old roster own view out.old (views_left result views.new) out.new }
 {
-    let suspected = viewchange::suspicion(roster, own, views, view, out);
-    Reply::from(suspected)
+    let suspected = viewchange::suspicion(roster, own, *views, view, out);
+    *views = suspected.views;
+    Reply::from(suspected.answer)
 }
 
 // A step of the acceptor of site `own` on the site that the host lends, in the view of its view-change record.

@@ -12,6 +12,13 @@ use refusal::{Answer, Refusal, given};
 use roster::{Roster, View};
 use site::ViewRecord;
 
+// What a step by value gives: how many bytes of the buffer are to be sent, or a refusal, and the record after it.
+#[derive(Clone, Copy)]
+pub struct Outcome {
+    pub answer: Result<usize, Refusal>,
+    pub views: ViewRecord,
+}
+
 // The kinds of frames taken, as a set of kinds.
 const TAKEN: u16 = 1 << frame::SUSPICION | 1 << frame::VIEWCHANGE;
 
@@ -166,8 +173,8 @@ fn perform(r: Roster, own: u8, v: &mut ViewRecord, head: Heading, out: &mut [u8]
 
 // ---- the steps
 
-// One step: how much of the buffer is to be sent, or why the line is refused; then record and buffer stay. Any line is answered, in any state.
-pub fn step(
+// One step in place: how much of the buffer is to be sent, or why the line is refused; then record and buffer stay.
+fn step_in_place(
     r: Roster,
     own: u8,
     v: &mut ViewRecord,
@@ -186,8 +193,8 @@ pub fn step(
     Ok(perform(r, own, v, head, out))
 }
 
-// The host's own suspicion of a view: it enters as a SUSPICION from itself.
-pub fn suspicion(
+// The host's own suspicion in place.
+fn suspicion_in_place(
     r: Roster,
     own: u8,
     v: &mut ViewRecord,
@@ -202,4 +209,22 @@ pub fn suspicion(
     }
     on_suspicion(r, *v, own, view)?;
     Ok(suspect(r, own, v, own, out))
+}
+
+// One step by value. Any line is answered, in any state.
+pub fn step(r: Roster, own: u8, v: ViewRecord, line: &[u8], out: &mut [u8]) -> Outcome
+    ensures { (outcome result.answer result.views ≡ spec.returned r own v line.now out.old) × (out.new ≡ spec.output r own v line.now out.old) }
+{
+    let mut views = v;
+    let answer = step_in_place(r, own, &mut views, line, out);
+    Outcome { answer, views }
+}
+
+// The host's own suspicion of a view, by value: it enters as a SUSPICION from itself.
+pub fn suspicion(r: Roster, own: u8, v: ViewRecord, view: View, out: &mut [u8]) -> Outcome
+    ensures { (outcome result.answer result.views ≡ spec.returned r own v (spec.own_suspicion own view) out.old) × (out.new ≡ spec.output r own v (spec.own_suspicion own view) out.old) }
+{
+    let mut views = v;
+    let answer = suspicion_in_place(r, own, &mut views, view, out);
+    Outcome { answer, views }
 }

@@ -1,4 +1,4 @@
--- `viewchange::step` meets its contract: CONFIG comes first, then FORM, then the frame's checks, then the effect. Lines of its kinds have no commands, so the
+-- `viewchange::step_in_place` meets its contract: CONFIG comes first, then FORM, then the frame's checks, then the effect. Lines of its kinds have no commands, so the
 -- bare reading is the reading.
 use Rattle.std.proofs.Common.{sym, ◌∙◌}
 use Rattle.words.specs.Sizes.{limit}
@@ -7,7 +7,7 @@ use Rattle.refusal.specs.AnswerLaws.{passed_on}
 use Rattle.viewchange.specs.ViewChange.{taken}
 use Rattle.viewchange.specs.ViewChangeLaws.{bare_taken}
 use Rattle.viewchange.proofs.Calls.{not_full, refused, unfit, no_line, checked, done}
-use Rattle.viewchange.proofs.step.Goals as goal
+use Rattle.viewchange.proofs.step_in_place.Goals as goal
 
 pub returns-then-unfit : goal.returns-then-unfit
 returns-then-unfit c = refused _ _ _ _ _ (unfit _ _ _ _ _ (sym c.unfit.ensures ∙ c.if-unfit.true))

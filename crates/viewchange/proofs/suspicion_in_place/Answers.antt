@@ -1,8 +1,8 @@
--- `viewchange::suspicion` meets its contract: CONFIG comes first, then a SUSPICION from `own` itself, as which its line is read.
+-- `viewchange::suspicion_in_place` meets its contract: CONFIG comes first, then a SUSPICION from `own` itself, as which its line is read.
 use Rattle.std.proofs.Common.{refl, sym, ◌∙◌, arith}
 use Rattle.refusal.specs.AnswerLaws.{passed_on}
 use Rattle.viewchange.proofs.Calls.{own_heading, own_heading_read, not_full, refused, unfit, checked, done}
-use Rattle.viewchange.proofs.suspicion.Goals as goal
+use Rattle.viewchange.proofs.suspicion_in_place.Goals as goal
 
 pub returns-then-barred : goal.returns-then-barred
 returns-then-barred c = refused _ _ _ _ _ (unfit _ _ _ _ _ (sym c.unfit-barred.ensures ∙ c.if-barred.true))
