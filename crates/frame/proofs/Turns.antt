@@ -58,19 +58,10 @@ known h = leb 1 (get_or h 0 0) && ltb (get_or h 0 0) 11
 abbrev pub few : ℕ → List ℕ → Bool
 few limit h = leb (get_or h 6 0) limit && leb (get_or h 7 0) limit
 
-module _ (limit : ℕ) (h : List ℕ) where
-  -- an unknown kind, counts too high, and otherwise the fields that the kind doesn't use
-  pub proper_unknown : known h ≡ false → proper_header limit h ≡ false
-  unfolding proper_header is_kind uses
-  proper_unknown e = ap (λ (b : Bool). b && (few limit h && zero_unless (get_or uses (get_or h 0 0) []) h)) e
-
-  pub proper_many : known h ≡ true → few limit h ≡ false → proper_header limit h ≡ false
-  unfolding proper_header is_kind uses
-  proper_many e f = ap₂ (λ (a b : Bool). a && (b && zero_unless (get_or uses (get_or h 0 0) []) h)) e f
-
-  pub proper_rest : known h ≡ true → few limit h ≡ true → proper_header limit h ≡ zero_unless (get_or uses (get_or h 0 0) []) h
-  unfolding proper_header is_kind uses
-  proper_rest e f = ap₂ (λ (a b : Bool). a && (b && zero_unless (get_or uses (get_or h 0 0) []) h)) e f
+-- a known kind, counts that are low enough, and the fields that the kind doesn't use
+pub proper_tests : (limit : ℕ) (h : List ℕ) → proper_header limit h ≡ (known h && (few limit h && zero_unless (get_or uses (get_or h 0 0) []) h))
+unfolding proper_header is_kind uses
+proper_tests limit h = refl
 
 -- ---- one number that is read
 

@@ -179,16 +179,10 @@ fn proper(limit: u8, head: &[u64]) -> bool
     ensures { result ≡ leaves.proper_header limit head.now }
 {
     let kind = head[0];
-    let known = (1 <= kind) & (kind < 11);
-    if !known {
-        return false;
-    }
     let most = limit as u64;
+    let known = (1 <= kind) & (kind < 11);
     let few = (head[6] <= most) & (head[7] <= most);
-    if !few {
-        return false;
-    }
-    unused_zero(kind as usize, head)
+    known && few && unused_zero(kind as usize, head)
 }
 
 // Whether all words are 0.
@@ -302,13 +296,9 @@ fn read_body(values: &[u8; 256], line: &[u8], n: u8, m: u8, words: &mut [u64]) -
 {
     let count = n as usize + m as usize;
     let end = HEADER + COMMAND * count;
-    if line.len() != end + 1 {
-        return false;
-    }
-    if line[end] != FEED {
-        return false;
-    }
-    read_words(values, &line[HEADER..end], &mut words[..count])
+    line.len() == end + 1
+        && line[end] == FEED
+        && read_words(values, &line[HEADER..end], &mut words[..count])
 }
 
 // A limit, or the capacity of a list where the limit is more.
