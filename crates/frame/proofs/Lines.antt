@@ -6,7 +6,7 @@ use mathlib.Core.Path.{◌≡◌, refl, sym, ap, ap₂, subst, ◌∙◌}
 use mathlib.Core.Bool.{Bool, true, false, cond, ◌&&◌, and-false, true≢false}
 use mathlib.Core.List.{List, [], ◌++◌}
 use lib.Dec.{leb, eqb, lit<}
-use lib.ListN.{length, get_or, take, drop, replicate, length-drop, length-replicate}
+use lib.ListN.{length, get_or, take, drop, replicate, length-replicate}
 use lib.Seq.{take-add, length-take-le}
 use borrow.Author.Tests.{leb-true, eq-eqb, ne_eqb}
 use Rattle.basics.specs.Bools.{and_left, and_right}
@@ -67,7 +67,7 @@ module _ (limit : ℕ) (l : List ℕ) (inv : Headed limit l) (n m : ℕ) (are : 
 
 -- so that there are words enough
 module _ (n m : ℕ) (few : n + m ≤ frame_capacity) {ws : List ℕ} (e : ws ≡ replicate frame_capacity 0) where
-  pub words_enough : n + m ≤ length ws
+  words_enough : n + m ≤ length ws
   words_enough = omega (arith, ap length e)
 
   pub words_room : length (take (n + m) ws) ≡ n + m
@@ -94,10 +94,6 @@ module _ (l : List ℕ) (n m : ℕ) (are : Counted l n m) where
   module _ (size : length l ≡ 36 + 16 * (n + m) + 1) where
     right_length : eqb (length l) (line_length (count (frame_of l))) ≡ true
     right_length = eq-eqb (length l) (line_length (count (frame_of l))) (size ∙ sym size_is)
-
-    -- and the digits are those of as many commands
-    pub digits_room : (k : ℕ) → k ≡ n + m → length (take (36 + 16 * (n + m) - 36) (drop 36 l)) ≡ 16 * k
-    digits_room k e = length-take-le (36 + 16 * (n + m) - 36) (drop 36 l) (omega (arith, length-drop 36 l)) ∙ omega arith
 
     at_last : length l - 1 ≡ last
     unfolding last

@@ -1,4 +1,4 @@
--- One turn of each loop, and what it leaves at its end.
+-- One turn of each loop, what it leaves at its end, and what a chain answers by the definitions.
 use Prim.Native.Nat.{ℕ, zero, suc, ◌+◌, ◌-◌, ◌*◌, ◌/◌, ◌%◌, ◌^◌, ◌≤◌, ◌<◌, zero-le}
 use native.Mathlib.Nat.{add-zero, pow-suc, pow-le-pow_right, zero-lt-suc}
 use native.Mathlib.Numerals.{add-one}
@@ -8,11 +8,12 @@ use mathlib.Core.Bool.{Bool, true, false, cond, ◌&&◌, ◌||◌, and_assoc}
 use mathlib.Core.List.{List, [], ◌∷◌, ◌++◌, append-nil, append_assoc}
 use lib.Dec.{leb, ltb, eqb}
 use lib.ListN.{length, get_or, drop, set, length-set, drop_of_length-le}
-use lib.Seq.{drop-cons, drop-set-add}
-use borrow.Author.Tests.{eqb-true, ltb-true, lt-ltb, ne_eqb, eq-eqb}
+use lib.Seq.{drop-set-add}
+use borrow.Author.Tests.{ltb-true, lt-ltb}
 use Rattle.basics.specs.Lists.{drop_next}
-use Rattle.basics.specs.Bools.{and_left, and_right, every_at, every_below}
+use Rattle.basics.specs.Bools.{and_left, and_right}
 use Rattle.std.specs.Prelude.{Option, None, Some}
+use Rattle.std.specs.List.{list_all, zip}
 use Rattle.frame.specs.Hex.{digit, is_digit, value_of, all_digits, byte_of, number_from, number, digits_of}
 use Rattle.frame.specs.HexLaws.{value_lt}
 use Rattle.frame.specs.Kinds.{uses, is_kind, zero_unless}
@@ -21,49 +22,18 @@ use Rattle.frame.specs.Code.Leaves.{full_stop, digit_in, number_in, proper_heade
 
 -- ---- words that are all 0
 
-pub zero_stop : (l : List ℕ) (i : ℕ) → i < length l → (get_or l i 0 ≡ 0 → ⊥) → all_zero (drop i l) ≡ false
+pub all_zero_chain : (l : List ℕ) → all_zero l ≡ list_all (λ w. eqb w 0) l
 unfolding all_zero
-zero_stop l i h e = rw (drop_next l i h, ne_eqb (get_or l i 0) 0 e)
-
-pub zero_more : (l : List ℕ) (i : ℕ) → i < length l → get_or l i 0 ≡ 0 → all_zero (drop i l) ≡ all_zero (drop (i + 1) l)
-unfolding all_zero
-zero_more l i h e = rw (drop_next l i h, eq-eqb (get_or l i 0) 0 e)
-
-pub zero_end : (l : List ℕ) (i : ℕ) → length l ≤ i → all_zero (drop i l) ≡ true
-unfolding all_zero
-zero_end l i h = rw (drop_of_length-le l {i = i} h)
+all_zero_chain [] = refl
+all_zero_chain (w ∷ l) = ap (λ b. eqb w 0 && b) (all_zero_chain l)
 
 -- ---- fields that a kind doesn't use
 
--- the same of a row of the table of kinds
-row_next : (r : List Bool) (i : ℕ) → i < length r → drop i r ≡ get_or r i false ∷ drop (i + 1) r
-row_next r i h = rw (add-one) (drop-cons r i false h)
-
-row_test : ℕ → Bool
-row_test k = eqb (length (get_or uses k [])) 8
-
-all_rows : every_below 11 row_test ≡ true
-unfolding every_below row_test uses
-all_rows = refl
-
--- each row has an entry for each field
-pub row_length : (k : ℕ) → k < 11 → length (get_or uses k []) ≡ 8
-unfolding row_test
-row_length k h = eqb-true (length (get_or uses k [])) 8 (every_at 11 row_test all_rows k h)
-
-pub unused_stop : (r : List Bool) (l : List ℕ) (i : ℕ) → i < length r → i < length l → (get_or r i false || eqb (get_or l i 0) 0) ≡ false
-    → zero_unless (drop i r) (drop i l) ≡ false
+pub unused_chain : (r : List Bool) (l : List ℕ) → zero_unless r l ≡ list_all (λ p. p.0 || eqb p.1 0) (zip r l)
 unfolding zero_unless
-unused_stop r l i h j e = rw (row_next r i h, drop_next l i j, e)
-
-pub unused_more : (r : List Bool) (l : List ℕ) (i : ℕ) → i < length r → i < length l → (get_or r i false || eqb (get_or l i 0) 0) ≡ true
-    → zero_unless (drop i r) (drop i l) ≡ zero_unless (drop (i + 1) r) (drop (i + 1) l)
-unfolding zero_unless
-unused_more r l i h j e = rw (row_next r i h, drop_next l i j, e)
-
-pub unused_end : (r : List Bool) (l : List ℕ) (i : ℕ) → length r ≤ i → zero_unless (drop i r) (drop i l) ≡ true
-unfolding zero_unless
-unused_end r l i h = rw (drop_of_length-le r {i = i} h)
+unused_chain [] l = refl
+unused_chain (u ∷ r) [] = refl
+unused_chain (u ∷ r) (x ∷ l) = ap (λ b. (u || eqb x 0) && b) (unused_chain r l)
 
 -- ---- the digit of a character
 
@@ -88,19 +58,10 @@ known h = leb 1 (get_or h 0 0) && ltb (get_or h 0 0) 11
 abbrev pub few : ℕ → List ℕ → Bool
 few limit h = leb (get_or h 6 0) limit && leb (get_or h 7 0) limit
 
-module _ (limit : ℕ) (h : List ℕ) where
-  -- an unknown kind, counts too high, and otherwise the fields that the kind doesn't use
-  pub proper_unknown : known h ≡ false → proper_header limit h ≡ false
-  unfolding proper_header is_kind uses
-  proper_unknown e = ap (λ (b : Bool). b && (few limit h && zero_unless (get_or uses (get_or h 0 0) []) h)) e
-
-  pub proper_many : known h ≡ true → few limit h ≡ false → proper_header limit h ≡ false
-  unfolding proper_header is_kind uses
-  proper_many e f = ap₂ (λ (a b : Bool). a && (b && zero_unless (get_or uses (get_or h 0 0) []) h)) e f
-
-  pub proper_rest : known h ≡ true → few limit h ≡ true → proper_header limit h ≡ zero_unless (get_or uses (get_or h 0 0) []) h
-  unfolding proper_header is_kind uses
-  proper_rest e f = ap₂ (λ (a b : Bool). a && (b && zero_unless (get_or uses (get_or h 0 0) []) h)) e f
+-- a known kind, counts that are low enough, and the fields that the kind doesn't use
+pub proper_tests : (limit : ℕ) (h : List ℕ) → proper_header limit h ≡ (known h && (few limit h && zero_unless (get_or uses (get_or h 0 0) []) h))
+unfolding proper_header is_kind uses
+proper_tests limit h = refl
 
 -- ---- one number that is read
 

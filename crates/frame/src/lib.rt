@@ -118,8 +118,7 @@ fn number(values: &[u8; 256], digits: &[u8], width: usize) -> Option<u64>
     ensures { result ≡ leaves.number_in digits.now }
 {
     let mut x: u64 = 0;
-    let mut i: usize = 0;
-    while i < width {
+    for i in 0..width {
         let a = digit_of(values, digits[2 * i]);
         let b = digit_of(values, digits[2 * i + 1]);
         let fine = (a < 16) & (b < 16);
@@ -127,7 +126,6 @@ fn number(values: &[u8; 256], digits: &[u8], width: usize) -> Option<u64>
             return None;
         }
         x = 256 * x + 16 * (a as u64) + b as u64;
-        i += 1;
     }
     Some(x)
 }
@@ -138,8 +136,7 @@ fn read_header(values: &[u8; 256], digits: &[u8], head: &mut [u64]) -> bool
     ensures { leaves.NumbersIn layout.widths digits.now result head.new }
 {
     let mut at: usize = 0;
-    let mut k: usize = 0;
-    while k < 8 {
+    for k in 0..8 {
         let width = WIDTHS[k];
         let end = at + 2 * width;
         let Some(x) = number(values, &digits[at..end], width) else {
@@ -147,7 +144,6 @@ fn read_header(values: &[u8; 256], digits: &[u8], head: &mut [u64]) -> bool
         };
         head[k] = x;
         at = end;
-        k += 1;
     }
     true
 }
@@ -157,15 +153,13 @@ fn read_words(values: &[u8; 256], digits: &[u8], words: &mut [u64]) -> bool
     requires { (values.now ≡ leaves.values) × (length digits.now ≡ 16 * length words.old) }
     ensures { leaves.NumbersIn (format.commands (length words.old)) digits.now result words.new }
 {
-    let mut k: usize = 0;
-    while k < words.len() {
+    for k in 0..words.len() {
         let at = COMMAND * k;
         let end = at + COMMAND;
         let Some(x) = number(values, &digits[at..end], 8) else {
             return false;
         };
         words[k] = x;
-        k += 1;
     }
     true
 }
@@ -176,15 +170,7 @@ fn unused_zero(kind: usize, head: &[u64]) -> bool
     ensures { result ≡ kinds.zero_unless (get_or kinds.uses kind []) head.now }
 {
     let uses = &USES;
-    let mut k: usize = 0;
-    while k < 8 {
-        let fine = uses[kind][k] | (head[k] == 0);
-        if !fine {
-            return false;
-        }
-        k += 1;
-    }
-    true
+    uses[kind].iter().zip(head).all(|(u, x)| *u | (*x == 0))
 }
 
 // Whether a header's values are proper: the kind, the counts, and the fields that the kind doesn't use.
@@ -193,30 +179,17 @@ fn proper(limit: u8, head: &[u64]) -> bool
     ensures { result ≡ leaves.proper_header limit head.now }
 {
     let kind = head[0];
-    let known = (1 <= kind) & (kind < 11);
-    if !known {
-        return false;
-    }
     let most = limit as u64;
+    let known = (1 <= kind) & (kind < 11);
     let few = (head[6] <= most) & (head[7] <= most);
-    if !few {
-        return false;
-    }
-    unused_zero(kind as usize, head)
+    known && few && unused_zero(kind as usize, head)
 }
 
 // Whether all words are 0.
 fn all_zero(words: &[u64]) -> bool
     ensures { result ≡ format.all_zero words.now }
 {
-    let mut i: usize = 0;
-    while i < words.len() {
-        if words[i] != 0 {
-            return false;
-        }
-        i += 1;
-    }
-    true
+    words.iter().all(|w| *w == 0)
 }
 
 // Writes a number of `width` bytes as digits, the last byte first.
@@ -225,9 +198,7 @@ fn write_number(characters: &[u8], digits: &mut [u8], width: usize, number: u64)
     ensures { digits.new ≡ hex.digits_of width number }
 {
     let mut x = number;
-    let mut k = width;
-    while 0 < k {
-        k -= 1;
+    for k in (0..width).rev() {
         let byte = (x % 256) as usize;
         digits[2 * k] = characters[byte / 16];
         digits[2 * k + 1] = characters[byte % 16];
@@ -241,13 +212,11 @@ fn write_header(characters: &[u8], digits: &mut [u8], head: &[u64])
     ensures { digits.new ≡ hex.spell layout.widths head.now }
 {
     let mut at: usize = 0;
-    let mut k: usize = 0;
-    while k < 8 {
+    for k in 0..8 {
         let width = WIDTHS[k];
         let end = at + 2 * width;
         write_number(characters, &mut digits[at..end], width, head[k]);
         at = end;
-        k += 1;
     }
 }
 
@@ -256,12 +225,10 @@ fn write_words(characters: &[u8], digits: &mut [u8], words: &[u64])
     requires { (characters.now ≡ leaves.characters) × (length digits.old ≡ 16 * length words.now) }
     ensures { digits.new ≡ hex.spell (format.commands (length words.now)) words.now }
 {
-    let mut k: usize = 0;
-    while k < words.len() {
+    for k in 0..words.len() {
         let at = COMMAND * k;
         let end = at + COMMAND;
         write_number(characters, &mut digits[at..end], 8, words[k]);
-        k += 1;
     }
 }
 
@@ -329,13 +296,9 @@ fn read_body(values: &[u8; 256], line: &[u8], n: u8, m: u8, words: &mut [u64]) -
 {
     let count = n as usize + m as usize;
     let end = HEADER + COMMAND * count;
-    if line.len() != end + 1 {
-        return false;
-    }
-    if line[end] != FEED {
-        return false;
-    }
-    read_words(values, &line[HEADER..end], &mut words[..count])
+    line.len() == end + 1
+        && line[end] == FEED
+        && read_words(values, &line[HEADER..end], &mut words[..count])
 }
 
 // A limit, or the capacity of a list where the limit is more.
@@ -347,12 +310,7 @@ fn within(limit: u8) -> u8
 
 // Reads a line of one of the kinds (kind k is bit k), with lists of at most `limit` commands, into a heading and lent words: the n commands, then
 // the m, then zeros; where there is none all words are 0. A limit over the capacity counts as the capacity.
-pub fn read_into(
-    limit: u8,
-    line: &[u8],
-    kinds: u16,
-    words: &mut [u64; CAPACITY],
-) -> Option<Heading>
+pub fn read_into(limit: u8, line: &[u8], kinds: u16, words: &mut [u64; CAPACITY]) -> Option<Heading>
     ensures { format.reading_with result words.new ≡ format.reading_of (min limit sizes.capacity) line.now kinds }
 {
     *words = [0u64; CAPACITY];

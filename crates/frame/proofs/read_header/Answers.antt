@@ -32,12 +32,6 @@ returns-in_default c = gathering_stop widths _ _ c.loop-k.at c.loop-k.k c.loop-k
 pub bounds-head-k : goal.bounds-head-k
 bounds-head-k c = omega arith
 
-pub overflow_add-k : goal.overflow_add-k
-overflow_add-k c = omega arith
-
-pub loop-k-smaller : goal.loop-k-smaller
-loop-k-smaller c = omega arith
-
 pub loop-k-preserved : goal.loop-k-preserved
 loop-k-preserved c = gathering_turn widths _ _ c.loop-k.at c.loop-k.k c.loop-k.invariant (omega arith) _ refl c.number.result c.number.ensures c.in-Some.is _ refl
 

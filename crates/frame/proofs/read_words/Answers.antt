@@ -26,9 +26,6 @@ number-requires c = let n = length c.args.words.now in let k = c.loop-k.k in (c.
 pub returns-in_default : goal.returns-in_default
 returns-in_default c = let n = length c.args.words.now in let k = c.loop-k.k in gathering_stop (commands n) _ _ (16 * k) k c.loop-k.invariant (omega (arith, commands_length n)) (16 * k + 16) (command_end n k (omega (arith, commands_length n))) c.number.result c.number.ensures c.in_default.is _
 
-pub loop-k-smaller : goal.loop-k-smaller
-loop-k-smaller c = omega (arith, commands_length (length c.args.words.now))
-
 pub loop-k-preserved : goal.loop-k-preserved
 loop-k-preserved c = let n = length c.args.words.now in let k = c.loop-k.k in gathering_turn (commands n) _ _ (16 * k) k c.loop-k.invariant (omega (arith, commands_length n)) (16 * k + 16) (command_end n k (omega (arith, commands_length n))) c.number.result c.number.ensures c.in-Some.is (16 * (k + 1)) (omega arith)
 

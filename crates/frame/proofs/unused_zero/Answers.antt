@@ -1,23 +1,17 @@
--- `frame::unused_zero` meets its contract: the loop keeps that the answer for the whole row is the answer for what is left of it.
-use Rattle.frame.proofs.Turns.{row_length, unused_stop, unused_more, unused_end}
+-- `frame::unused_zero` meets its contract: the chain asks of each field whether the row has it or it is 0, which is the definition.
+use Rattle.std.specs.Prelude.{◌||◌, [], eqb, get_or}
+use Rattle.std.proofs.Common.{rules, sym, ◌∙◌}
+use Rattle.std.proofs.lemmas.Iterator.{YieldsList-from_slice, YieldsList-from_zip}
+use Rattle.std.proofs.lemmas.Iterator.Consumers.{YieldsList-at}
+use Rattle.std.proofs.lemmas.Iterator.Search.{all_from_yields_List}
+use borrow.Author.Tests.{tests}
 use Rattle.frame.specs.Kinds.{uses}
-use lib.ListN.{get_or}
-use mathlib.Core.List.{[]}
-use mathlib.Core.Path.{sym, refl, ◌∙◌}
-use native.Mathlib.Omega.{arith}
-use borrow.Author.Rules.{rules}
+use Rattle.frame.proofs.Turns.{unused_chain}
 use Rattle.frame.proofs.unused_zero.Goals as goal
 
-pub loop-k-init : goal.loop-k-init
-loop-k-init c = (search rules, refl)
-
-pub returns-then-not-fine : goal.returns-then-not-fine
-unfolding uses
-returns-then-not-fine c = let h = row_length c.args.kind (omega arith) in sym (unused_stop (get_or uses c.args.kind []) c.args.head.now c.loop-k.k (omega arith) (omega arith) c.if-not-fine.true) ∙ c.loop-k.invariant.1
-
-pub loop-k-preserved : goal.loop-k-preserved
-unfolding uses
-loop-k-preserved c = let h = row_length c.args.kind (omega arith) in (search rules, sym (unused_more (get_or uses c.args.kind []) c.args.head.now c.loop-k.k (omega arith) (omega arith) c.if-not-fine.false) ∙ c.loop-k.invariant.1)
-
 pub returns : goal.returns
-returns c = let h = row_length c.args.kind (omega arith) in sym (unused_end (get_or uses c.args.kind []) c.args.head.now c.loop-k.k (omega arith)) ∙ c.loop-k.invariant.1
+unfolding uses
+returns c = let row = get_or uses c.args.kind [] in
+    let head = c.args.head.now in
+    all_from_yields_List (λ p. p.0 || eqb p.1 0) c.all.new.self _ _ c.all.ensures.ran (YieldsList-from_zip (YieldsList-at c.zip.ensures.first (YieldsList-from_slice row c.iter.ensures.rest)) (YieldsList-from_slice head cc)) (λ x b q k. search (rules, tests))
+    ∙ sym (unused_chain row head)

@@ -6,6 +6,3 @@ use Rattle.frame.proofs.write_number.Given as goal
 
 abbrev pub invariant-loop-k : goal.invariant-loop-k
 invariant-loop-k l = Putting l.digits l.x l.k (length l.initial.digits) (digits_of l.width l.number)
-
-abbrev pub decreases-loop-k : goal.decreases-loop-k
-decreases-loop-k l = l.k
