@@ -32,6 +32,10 @@ module _ (b : ℕ) (bs : List ℕ) where
   unfolding through
   through_other e = rw e
 
+  pub ends_feed : eqb b line_feed ≡ true → ends (b ∷ bs) ≡ true
+  unfolding ends
+  ends_feed e = rw e
+
   pub ends_other : eqb b line_feed ≡ false → ends (b ∷ bs) ≡ ends bs
   unfolding ends
   ends_other e = rw e
