@@ -81,18 +81,11 @@ fn valid_argument(k: u8, a: u16) -> bool
 }
 
 // Whether a command's fields are right.
+#[tactic(auto, unfolding(crate::specs::Command::valid_command))]
 pub fn valid(c: u64) -> bool
     ensures { result ≡ spec.valid_command c }
 {
-    let no_proposer = proposer(c) == 0;
-    if no_proposer {
-        return false;
-    }
-    let no_serial = serial(c) == 0;
-    if no_serial {
-        return false;
-    }
-    valid_argument(kind(c), argument(c))
+    proposer(c) != 0 && serial(c) != 0 && valid_argument(kind(c), argument(c))
 }
 
 // Whether each command of h is valid.
@@ -132,17 +125,9 @@ fn kinds_conflict(k: u8, l: u8) -> bool
 }
 
 // Whether two commands conflict.
+#[tactic(auto, unfolding(crate::specs::Command::conflict))]
 pub fn conflict(c: u64, d: u64) -> bool
     ensures { result ≡ spec.conflict c d }
 {
-    let same = same_request(c, d);
-    if same {
-        return true;
-    }
-    let same_slot = slot(c) == slot(d);
-    if same_slot {
-        kinds_conflict(kind(c), kind(d))
-    } else {
-        false
-    }
+    same_request(c, d) || (slot(c) == slot(d) && kinds_conflict(kind(c), kind(d)))
 }

@@ -11,14 +11,11 @@ ghost use Rattle.content.specs.Content as spec;
 use refusal::{Answer, Refusal, given};
 
 // Whether a list that may be empty has a proposer and serial twice, or is not in canonical order.
+#[tactic(auto, unfolding(crate::specs::Content::disordered))]
 fn disordered(h: &[u64]) -> bool
     ensures { result ≡ spec.disordered h.now }
 {
-    let doubled = history::repeated(h);
-    if doubled {
-        return true;
-    }
-    !history::is_canonical(h)
+    history::repeated(h) || !history::is_canonical(h)
 }
 
 // The answer to a history that is not empty, in canonical order.
@@ -59,7 +56,7 @@ pub fn reported(proven: &[u64], held: &[u64]) -> Answer
 
 // The answer to new commands h by the list that they are appended to, under a limit; one over 32 counts as 32. Each test reads all of the list, so
 // each is a tier of its own.
-pub fn appendable<'a>(limit: u8, list: &'a [u64], h: &'a [u64]) -> Answer
+pub fn appendable(limit: u8, list: &[u64], h: &[u64]) -> Answer
     ensures { result ≡ answer (spec.append_rules (min limit capacity) list.now h.now) }
 {
     let reused = merge::reuses(list, h);
@@ -75,12 +72,9 @@ pub fn appendable<'a>(limit: u8, list: &'a [u64], h: &'a [u64]) -> Answer
 }
 
 // Whether neither of a site's entry and h extends the other, of lists that a union of two histories can be: a longer one extends nothing here.
-pub fn contradicts<'a>(entry: &'a [u64], h: &'a [u64]) -> bool
+#[tactic(auto, unfolding(crate::specs::Content::contradicts_within))]
+pub fn contradicts(entry: &[u64], h: &[u64]) -> bool
     ensures { result ≡ spec.contradicts_within union_capacity entry.now h.now }
 {
-    let newer = history::extends(h, entry);
-    if newer {
-        return false;
-    }
-    !history::extends(entry, h)
+    !history::extends(h, entry) && !history::extends(entry, h)
 }

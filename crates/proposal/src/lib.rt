@@ -54,14 +54,7 @@ fn gather(work: &mut [u64], count: usize, rows: Rows, reported: u16, n: u8) -> u
 
 // Puts into work, up to its end, g, then the histories that the sites below n hold, by rising site, then what is pending. Answers how many words
 // there are then.
-fn assemble(
-    work: &mut [u64],
-    g: &[u64],
-    held: Rows,
-    reported: u16,
-    n: u8,
-    pending: &[u64],
-) -> usize
+fn assemble(work: &mut [u64], g: &[u64], held: Rows, reported: u16, n: u8, pending: &[u64]) -> usize
     ensures { Begins (length work.old) work.new result (spec.filled (length work.old) (spec.filled_to (length work.old) n (spec.report held.entry.words.now held.entry.counts.now reported) g.now) pending.now) }
 {
     let front = history::first(g, work.len());

@@ -197,6 +197,13 @@ fn main(rt: HostRuntime) -> io::Result<()> {
         len: 0,
         over: false,
     };
-    run(&rt, &mut s, &mut rt.stdin(), &mut input, &mut line, &mut out)?;
+    run(
+        &rt,
+        &mut s,
+        &mut rt.stdin(),
+        &mut input,
+        &mut line,
+        &mut out,
+    )?;
     hear(&rt, &mut s.site, words::first(&line, s.len), &mut out)
 }

@@ -65,11 +65,7 @@ fn on_suspicion(r: Roster, v: ViewRecord, site: u8, view: View) -> Answer
     given(
         nobody,
         Refusal::Sender,
-        given(
-            stale,
-            Refusal::Stale,
-            given(passes, Refusal::Full, Ok(())),
-        ),
+        given(stale, Refusal::Stale, given(passes, Refusal::Full, Ok(()))),
     )
 }
 
@@ -83,11 +79,7 @@ fn on_change(r: Roster, v: ViewRecord, site: u8, view: View, mask: u16) -> Answe
     given(
         nobody,
         Refusal::Sender,
-        given(
-            stale,
-            Refusal::Stale,
-            given(lacks, Refusal::Proof, Ok(())),
-        ),
+        given(stale, Refusal::Stale, given(lacks, Refusal::Proof, Ok(()))),
     )
 }
 
