@@ -347,12 +347,7 @@ fn within(limit: u8) -> u8
 
 // Reads a line of one of the kinds (kind k is bit k), with lists of at most `limit` commands, into a heading and lent words: the n commands, then
 // the m, then zeros; where there is none all words are 0. A limit over the capacity counts as the capacity.
-pub fn read_into(
-    limit: u8,
-    line: &[u8],
-    kinds: u16,
-    words: &mut [u64; CAPACITY],
-) -> Option<Heading>
+pub fn read_into(limit: u8, line: &[u8], kinds: u16, words: &mut [u64; CAPACITY]) -> Option<Heading>
     ensures { format.reading_with result words.new ≡ format.reading_of (min limit sizes.capacity) line.now kinds }
 {
     *words = [0u64; CAPACITY];
