@@ -32,12 +32,11 @@ struct Site {
     leading: leader::State,
 }
 
-// What stands between two reads of the input: the site, how many bytes are kept of the line that arrives, and whether the input is over.
+// What stands between two reads of the input: the site, and how many bytes are kept of the line that arrives.
 #[derive(Clone, Copy)]
 struct Stream {
     site: Site,
     len: usize,
-    over: bool,
 }
 
 // Writes bytes to standard output.
@@ -151,23 +150,6 @@ fn chunk(
     Ok(())
 }
 
-// Hands on what one read of the input gives.
-fn turn(
-    rt: &impl Print,
-    s: &mut Stream,
-    source: &mut impl Read,
-    input: &mut [u8],
-    line: &mut [u8],
-    out: &mut [u8],
-) -> io::Result<()> {
-    let n = source.read(input)?;
-    if n == 0 {
-        s.over = true;
-        return Ok(());
-    }
-    chunk(rt, s, &input[..n], line, out)
-}
-
 // Hands on the whole input. A proved loop has to end, and nothing says that the input does. So the loop counts its turns, up to a number that no run
 // reaches.
 fn run(
@@ -179,10 +161,11 @@ fn run(
     out: &mut [u8],
 ) -> io::Result<()> {
     for _ in 0..u64::MAX {
-        turn(rt, s, source, input, line, out)?;
-        if s.over {
+        let n = source.read(input)?;
+        if n == 0 {
             break;
         }
+        chunk(rt, s, &input[..n], line, out)?;
     }
     Ok(())
 }
@@ -195,7 +178,6 @@ fn main(rt: HostRuntime) -> io::Result<()> {
     let mut s = Stream {
         site: fresh(Roster { n: 0, f: 0 }, 0),
         len: 0,
-        over: false,
     };
     run(
         &rt,
