@@ -9,7 +9,7 @@ use std::io::Read;
 // Every kind, and P2B alone, as sets of kinds.
 const ALL: u16 = 0xffff;
 
-const VOTES: u16 = 1 << 7;
+const VOTES: u16 = 1 << frame::P2B;
 
 // How much of the input is read at most.
 const LONGEST_TABLE: usize = 65_536;
