@@ -1,21 +1,22 @@
 -- What one turn of each loop does to the definition that the loop computes: the loop stops, goes on with one command less, or has come to the end.
-use mathlib.Core.Path.{◌≡◌, refl, sym, ap, ◌∙◌}
-use Rattle.std.specs.List.{list_any, range_with_len}
+use mathlib.Core.Path.{◌≡◌, refl, ap, ◌∙◌}
+use Rattle.std.specs.List.{list_any, range_with_len, slice_get}
+use Rattle.std.specs.Option.{unwrap_or}
+use Rattle.std.proofs.lemmas.Option.{unwrap_or-slice_get}
 use mathlib.Core.Bool.{true, false, cond, ◌||◌}
-use mathlib.Core.List.{List, [], ◌∷◌, ◌++◌}
+use mathlib.Core.List.{List, ◌++◌, append-nil}
 use Prim.Native.Nat.{ℕ, zero, suc, ◌+◌, ◌-◌, ◌≤◌, ◌<◌}
 use native.Mathlib.Omega.{arith}
-use native.Mathlib.Numerals.{sub-one}
+use native.Mathlib.Numerals.{add-one, sub-one}
 use borrow.Author.Tests.{eq-eqb, ne_eqb, lt-ltb, le-ltb}
 use lib.Dec.{ltb}
-use lib.ListN.{length, take, drop, get_or, drop_of_length-le, length-take, length-drop}
-use lib.Seq.{take-length, take_all, length-take-le}
+use lib.ListN.{length, take, drop, get_or, set, drop_of_length-le, length-drop}
+use lib.Seq.{take-length, take_all, length-take-le, append_snoc, take-suc-set, drop-set-lt}
 use Rattle.basics.specs.Lists.{drop_next, take_next}
 use Rattle.command.specs.Command.{conflict, same_request}
 use Rattle.history.specs.History.{present, repeated}
 use Rattle.history.specs.Code.Insertion.{place, stays, walk}
-use Rattle.history.specs.Front.{off_at, rotated}
-use Rattle.history.specs.FrontLaws.{rotated_last}
+use Rattle.history.specs.Front.{off_at, shifted, rotated}
 
 -- the part of a list from a on, as a slice `&h[a..]` is made of it
 pub tail_part : (h : List ℕ) (a : ℕ) → take (length h - a) (drop a h) ≡ drop a h
@@ -104,13 +105,15 @@ find_end c h i p = rw (drop_of_length-le h p) (omega arith)
 
 -- ---- rotating
 
--- the list after `s.rotate_right(1)`
-pub rotated_right : (s : List ℕ) → 1 ≤ length s → drop (length s - 1) s ++ take (length s - 1) s ≡ rotated s
-rotated_right s p =
-    let n = length s - 1 in
-    let whole : take n s ++ get_or s n 0 ∷ [] ≡ s = sym (take_next s n (omega arith)) ∙ take_all (n + 1) s (omega arith) in
-    rw (drop_next s n (omega arith), drop_of_length-le s {i = n + 1} (omega arith)) (sym (rotated_last (take n s) (get_or s n 0)) ∙ ap rotated whole)
+-- c goes to k, and the element from there is carried on in its place
+pub shifted_more : (s : List ℕ) (k c : ℕ) → k < length s → take (k + 1) (set s k c) ++ shifted (get_or s k 0) (drop (k + 1) (set s k c)) ≡ take k s ++ shifted c (drop k s)
+unfolding shifted
+shifted_more s k c p = rw (drop_next s k p, add-one, take-suc-set s k c p, drop-set-lt (suc k) s k c (omega arith)) (append_snoc (take k s) c (shifted (get_or s k 0) (drop (suc k) s)))
 
--- the part `&h[to..=from]` has an element
-pub part_some : (h : List ℕ) (from to : ℕ) → to ≤ from → from < length h → 1 ≤ length (take (from + 1 - to) (drop to h))
-part_some h from to p q = rw (length-take, length-drop) (omega arith)
+pub shifted_end : (s : List ℕ) (k c : ℕ) → length s ≤ k → take k s ++ shifted c (drop k s) ≡ s
+unfolding shifted
+shifted_end s k c p = rw (drop_of_length-le s p, take_all k s p) (append-nil s)
+
+pub rotated_start : (s : List ℕ) (c : ℕ) → c ≡ unwrap_or (slice_get s (length s - 1)) 0 → shifted c s ≡ rotated s
+unfolding rotated
+rotated_start s c e = ap (λ d. shifted d s) (e ∙ unwrap_or-slice_get s (length s - 1) 0)

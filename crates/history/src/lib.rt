@@ -151,6 +151,16 @@ pub fn is_canonical(h: &[u64]) -> bool
     true
 }
 
+// The last command of s goes before the others.
+fn rotate(s: &mut [u64])
+    ensures { s.new ≡ front.rotated s.old }
+{
+    let mut carry = s.last().copied().unwrap_or(0);
+    for d in s.iter_mut() {
+        std::mem::swap(d, &mut carry);
+    }
+}
+
 // Puts h in canonical order.
 pub fn put_in_order(h: &mut [u64])
     ensures { h.new ≡ spec.canonical h.old }
@@ -159,7 +169,7 @@ pub fn put_in_order(h: &mut [u64])
     for i in 0..h.len() {
         let at = place_below(h, i, largest);
         largest = largest.max(h[i]);
-        h[at..=i].rotate_right(1);
+        rotate(&mut h[at..i + 1]);
     }
 }
 
@@ -187,7 +197,7 @@ pub fn bring(work: &mut [u64], g: &[u64]) -> bool
         if work.len() <= at {
             return false;
         }
-        work[i..=at].rotate_right(1);
+        rotate(&mut work[i..at + 1]);
     }
     true
 }

@@ -1,11 +1,10 @@
--- What the library's methods on lists of words answer, by the definitions of this crate.
-use Rattle.std.specs.Prelude.{◌≡◌, refl, Bool, true, false, ◌&&◌, List, [], ◌∷◌, ◌++◌, ℕ, suc, ◌+◌, ◌-◌, ◌≤◌, ◌<◌, cond, eqb, length, get_or, take, drop, replicate}
+-- What the library's methods on lists of words, and one turn of copying them, come to by the definitions of this crate.
+use Rattle.std.specs.Prelude.{◌≡◌, refl, Bool, true, false, ◌&&◌, List, [], ◌∷◌, ℕ, suc, ◌+◌, ◌-◌, ◌≤◌, ◌<◌, cond, eqb, length, get_or, take, drop, set, replicate}
 use Rattle.std.specs.List.{zip, prefix_len}
 use Rattle.std.specs.Cmp.Lexicographic.{pointwise}
-use Rattle.std.proofs.Common.{ap, sym, ◌∙◌, arith, one-add, eqb-true, eq-eqb, length-append, length-take, length-drop, append-nil}
+use Rattle.std.proofs.Common.{ap, sym, ◌∙◌, arith, add-one, one-add, eqb-true, eq-eqb, length-take, length-drop, append-nil, take-suc, take-suc-set}
 use Rattle.std.proofs.lemmas.List.{drop_all}
 use Rattle.std.proofs.Math.Bool.{true≢false}
-use Rattle.std.proofs.Math.Seq.{take_at}
 use borrow.Rule.Slice.PartMut.{put_mid}
 use Rattle.words.specs.Words.{equal, Common, padded, cleared}
 use Rattle.words.specs.WordsLaws.{filled}
@@ -44,7 +43,11 @@ matched_common (c ∷ h) (d ∷ g) = go (eqb c d) refl (matched_common h g)
     go true e s = rw one-add (common_more c d h g (matched h g) (eqb-true c d e) s)
     go false e s = common_none (c ∷ h) (d ∷ g) (λ p q f. true≢false (sym (eq-eqb c d f) ∙ e))
 
--- ---- filling
+-- ---- copying and filling
+
+-- the first words are the same after a copy of one more
+pub copied_more : (s l : List ℕ) (k : ℕ) → k < length s → k < length l → take k s ≡ take k l → take (k + 1) (set s k (get_or l k 0)) ≡ take (k + 1) l
+copied_more s l k p q e = rw (add-one, take-suc-set s k _ p, take-suc l k 0 q, e)
 
 -- the list after `xs[m..].fill(0)`
 zeroed : (xs z : List ℕ) (m : ℕ) → m ≤ length xs → z ≡ replicate (length (take (length xs - m) (drop m xs))) 0 → put_mid m (length xs - m) xs z ≡ cleared xs m
@@ -54,12 +57,9 @@ zeroed xs z m p e =
     let end : drop (length xs - m) (drop m xs) ≡ [] = drop_all (length xs - m) (drop m xs) (rw length-drop (omega arith)) in
     rw (e, size, end, append-nil)
 
--- the list d after `d[..k].copy_from_slice(fit)` and `d[k..].fill(0)`, with k the length of fit
-pub fill_after : (d s fit copied z : List ℕ) → fit ≡ take (length d) s → copied ≡ fit
-    → let xs = copied ++ drop (length fit) d in
-    z ≡ replicate (length (take (length xs - length fit) (drop (length fit) xs))) 0 → put_mid (length fit) (length xs - length fit) xs z ≡ padded (length d) s
-fill_after d s fit copied z f c e =
-    let xs = copied ++ drop (length fit) d in
+-- the list d after a list was copied to its front, as much of it as fits, and then `d[k..].fill(0)`, with k the length of what fits
+pub fill_after : (d s fit xs z : List ℕ) → fit ≡ take (length d) s → length xs ≡ length d → take (length fit) xs ≡ fit
+    → z ≡ replicate (length (take (length xs - length fit) (drop (length fit) xs))) 0 → put_mid (length fit) (length xs - length fit) xs z ≡ padded (length d) s
+fill_after d s fit xs z f size c e =
     let short : length fit ≤ length d = rw f (rw length-take (omega arith)) in
-    let size : length xs ≡ length d = rw (c, length-append, length-drop) (omega arith) in
-    zeroed xs z (length fit) (omega arith) e ∙ filled xs s fit (length d) size f (rw c (take_at fit _ _ refl))
+    zeroed xs z (length fit) (omega arith) e ∙ filled xs s fit (length d) size f c

@@ -1,7 +1,7 @@
 // Lists of words: the first of them, comparing, copying.
 #![tactic(auto)]
 
-ghost use Rattle.std.specs.Prelude.{◌≡◌, length, take};
+ghost use Rattle.std.specs.Prelude.{◌≡◌, ◌≤◌, length, take};
 ghost use Rattle.words.specs.Words as spec;
 
 // The rule: how many commands a history may have. It is handed to the functions that need it.
@@ -31,11 +31,21 @@ pub fn common(h: &[u64], g: &[u64]) -> usize
     h.iter().zip(g).take_while(|(c, d)| c == d).count()
 }
 
+// Copies src to the front of dst.
+fn copy(dst: &mut [u64], src: &[u64])
+    requires { length src.now ≤ length dst.old }
+    ensures { (length dst.new ≡ length dst.old) × (take (length src.now) dst.new ≡ src.now) }
+{
+    for i in 0..src.len() {
+        dst[i] = src[i];
+    }
+}
+
 // Fills dst with the words of src, and with zeros where src has no more.
 pub fn fill(dst: &mut [u64], src: &[u64])
     ensures { dst.new ≡ spec.padded (length dst.old) src.now }
 {
     let fit = first(src, dst.len());
-    dst[..fit.len()].copy_from_slice(fit);
+    copy(dst, fit);
     dst[fit.len()..].fill(0);
 }

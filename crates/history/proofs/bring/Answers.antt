@@ -1,10 +1,10 @@
 -- `history::bring` meets its contract: the loop keeps that the first i commands of g stand in front, and that the test and the result go on from there.
 use Prim.Native.Nat.{ℕ, ◌+◌}
 use native.Mathlib.Omega.{arith}
-use mathlib.Core.Path.{ap, ◌∙◌}
+use mathlib.Core.Path.{ap}
 use lib.ListN.{drop, get_or, length-drop}
 use Rattle.history.specs.FrontLaws.{off_at_le}
-use Rattle.history.proofs.Scans.{tail_part, part_some, rotated_right}
+use Rattle.history.proofs.Scans.{tail_part}
 use Rattle.history.proofs.Turns.{bring_start, bring_end, bring_stop, bring_turn}
 use Rattle.history.proofs.bring.Goals as goal
 
@@ -21,15 +21,9 @@ pub returns-then-work-at : goal.returns-then-work-at
 returns-then-work-at c = let turn = c.loop-i in
     bring_stop turn.work _ turn.i _ _ _ turn.invariant (omega arith) (rw (← rw tail_part at c.find.ensures) (omega arith))
 
-pub rotate_right-requires : goal.rotate_right-requires
-rotate_right-requires c = let turn = c.loop-i in
-    part_some turn.work (turn.i + c.find.result) turn.i (omega arith) c.if-work-at.false
-
 pub loop-i-preserved : goal.loop-i-preserved
 loop-i-preserved c = let turn = c.loop-i in
-    let at = turn.i + c.find.result in
-    bring_turn turn.work _ turn.i _ _ _ turn.invariant (omega arith) at (ap (λ (j : ℕ). turn.i + j) (rw tail_part at c.find.ensures)) c.if-work-at.false c.rotate_right.new.self
-    (c.rotate_right.ensures.after ∙ rotated_right _ (part_some turn.work at turn.i (omega arith) c.if-work-at.false))
+    bring_turn turn.work _ turn.i _ _ _ turn.invariant (omega arith) (turn.i + c.find.result) (ap (λ (j : ℕ). turn.i + j) (rw tail_part at c.find.ensures)) (omega arith) c.rotate.new.s c.rotate.ensures
 
 pub returns : goal.returns
 returns c = bring_end _ _ c.loop-i.i _ _ _ c.loop-i.invariant (omega arith)

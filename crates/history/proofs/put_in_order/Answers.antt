@@ -4,7 +4,6 @@ use mathlib.Core.Path.{sym, ◌∙◌}
 use borrow.Author.Rules.{rules}
 use Rattle.history.specs.Code.Insertion.{none}
 use Rattle.history.specs.InsertionLaws.{arrange_canonical}
-use Rattle.history.proofs.Scans.{part_some, rotated_right}
 use Rattle.history.proofs.Turns.{arrange_turn, arrange_end}
 use Rattle.history.proofs.put_in_order.Goals as goal
 
@@ -14,15 +13,10 @@ loop-i-init c = record { inside = search rules; size = search rules; rest = arra
 pub place_below-at-requires : goal.place_below-at-requires
 place_below-at-requires c = (search rules, c.loop-i.invariant.bound)
 
-pub rotate_right-requires : goal.rotate_right-requires
-rotate_right-requires c = part_some c.loop-i.h c.loop-i.i c.place_below-at.result c.place_below-at.ensures.0 (omega arith)
-
 pub loop-i-preserved : goal.loop-i-preserved
 loop-i-preserved c = let turn = c.loop-i in
-    let at = c.place_below-at.result in
-    arrange_turn turn.h turn.i at _ _ _ _ c.rotate_right.new.self turn.invariant c.place_below-at.ensures.0 (omega arith) c.place_below-at.ensures.1
-    (omega arith) (omega arith)
-    (c.rotate_right.ensures.after ∙ rotated_right _ (part_some turn.h turn.i at c.place_below-at.ensures.0 (omega arith)))
+    arrange_turn turn.h turn.i c.place_below-at.result _ _ _ _ c.rotate.new.s turn.invariant c.place_below-at.ensures.0 (omega arith) c.place_below-at.ensures.1
+    (omega arith) (omega arith) c.rotate.ensures
 
 pub returns : goal.returns
 returns c = sym (arrange_end _ c.loop-i.i (omega arith)) ∙ c.loop-i.invariant.rest
