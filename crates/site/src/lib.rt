@@ -63,3 +63,13 @@ pub fn send(head: Heading, g: &[u64], h: &[u64], out: &mut [u8]) -> usize
     let m = two.len() as u8;
     frame::write_from(Heading { n, m, ..head }, one, two, out)
 }
+
+// The same, if the frame is to be sent. If not, nothing is written, and the length is 0.
+pub fn send_if(sent: bool, head: Heading, g: &[u64], h: &[u64], out: &mut [u8]) -> usize
+    ensures { reply.Handed (reply.sends_if sent (message.message head.kind head.sender head.view head.ballot head.proven_ballot head.mask (take capacity g.now) (take capacity h.now))) result out.old out.new }
+{
+    if !sent {
+        return 0;
+    }
+    send(head, g, h, out)
+}
