@@ -2,14 +2,12 @@
 """stack.py LIBRARY: the deepest stack use of each function that the header declares, from the archive's code.
 
 A function's frame is what it pushes, what it takes off the stack pointer and its return address; a call's use is the deepest chain of
-calls below it. No call is indirect. The one function that calls itself is at most one deeper than there are sites. What the C library's
-memory functions use is theirs. Fails if a function uses more than docs/MANUAL.md says of it."""
+calls below it. No call is indirect, and no function calls itself. What the C library's memory functions use is theirs. Fails if a function
+uses more than docs/MANUAL.md says of it."""
 import os
 import re
 import subprocess
 import sys
-
-RECURSIVE = {'proposal::longest': 17}
 
 
 def frames(archive):
@@ -40,11 +38,9 @@ def frames(archive):
 def deepest(name, frame, calls, above=()):
     """The bytes of the deepest chain of calls that starts with this function."""
     if name in above:
-        if above[-1] == name and name in RECURSIVE:
-            return 0
         sys.exit(f'stack: {name} calls itself')
     below = [deepest(c, frame, calls, above + (name,)) for c in calls[name] if c in frame]
-    return frame[name] * RECURSIVE.get(name, 1) + max(below, default=0)
+    return frame[name] + max(below, default=0)
 
 
 def main():
@@ -53,9 +49,7 @@ def main():
     root = os.path.join(os.path.dirname(os.path.abspath(__file__)), '..')
     manual = open(os.path.join(root, 'docs', 'MANUAL.md'), encoding='utf8').read()
     frame, calls = frames(sys.argv[1])
-    failed = any(name not in calls.get(name, ()) for name in RECURSIVE)
-    if failed:
-        print(f'stack: of {", ".join(RECURSIVE)} not each is there and calls itself', file=sys.stderr)
+    failed = False
     for name in sorted(n for n in frame if n.startswith('speckleewe_')):
         used = deepest(name, frame, calls)
         said = re.search(r'^\| `%s` \| ([\d,]+) \|$' % name, manual, flags=re.M)

@@ -1,12 +1,13 @@
 -- What the code's tests say in the words of the definitions.
 use mathlib.Core.Path.{◌≡◌, refl, sym, ap, subst, ◌∙◌}
-use mathlib.Core.Bool.{Bool, true, false, not, ◌&&◌}
+use mathlib.Core.Bool.{Bool, true, false, not, cond, ◌&&◌}
+use mir.Val.{bool_byte}
 use mathlib.Core.List.{List, ◌∷◌, ◌++◌}
 use Prim.Native.Nat.{ℕ, ◌≤◌}
 use native.Mathlib.Omega.{arith}
 use borrow.Author.Tests.{not-false, ltb-false}
 use lib.ListN.{length, take, drop}
-use lib.Seq.{length-take-le, take-append_seam}
+use lib.Seq.{length-take-le, take-append_seam, take_all}
 use Rattle.std.specs.Prelude.{Some}
 use Rattle.basics.specs.Bools.{and_left, and_right}
 use Rattle.roster.specs.declared.Roster.{Roster}
@@ -16,7 +17,7 @@ use Rattle.history.specs.CanonicalLaws.{canonical_length}
 use Rattle.history.specs.Words.{limit, padded, valid_stored, extends_within}
 use Rattle.history.specs.WordsLaws.{extends_within_lem, valid_stored_length}
 use Rattle.merge.specs.Merge.{appended, appended_in}
-use Rattle.merge.specs.AppendingLaws.{appended_in_work, take_appended, append_bound}
+use Rattle.merge.specs.AppendingLaws.{appended_in_row, take_appended, append_bound}
 use Rattle.merge.specs.Appending.{overflows}
 use Rattle.table.specs.declared.Table.{Table}
 use Rattle.refusal.specs.declared.Refusal.{Refusal}
@@ -40,17 +41,23 @@ use Rattle.acceptor.specs.Code.Effects.{Performable, Done}
 abbrev pub blank : Heading
 blank = record { kind = 0; sender = 0; view = record { 0 = 0 }; ballot = record { 0 = 0 }; proven_ballot = record { 0 = 0 }; mask = 0; n = 0; m = 0 }
 
+-- a flag as a number
+pub flag_is : (b : Bool) → bool_byte b ≡ cond b 1 0
+flag_is true = refl
+flag_is false = refl
+
 -- the code's test of extension, of a list of at most 32 commands
 pub extends_is : (h g : List ℕ) (b : Bool) → length h ≤ 32 → b ≡ extends_within 64 h g → extends h g ≡ b
 extends_is h g b p e = sym (extends_within_lem 64 h g (omega arith)) ∙ sym e
 
--- ---- a union in place: what is held, and h appended to it; k words of w
+-- ---- a union in place: what is held, and h appended to it, within 32 commands; k words of w
 
-module _ (held h : List ℕ) (p : length held ≤ 32) (q : length h ≤ 32) where
-  pub united : (k : ℕ) (w : List ℕ) → (k ≡ length (appended_in (padded 64 held) (length held) h)) × (w ≡ appended_in (padded 64 held) (length held) h ++ drop k (padded 64 held))
+module _ (held h : List ℕ) (p : length held ≤ 32) (q : length (appended held h) ≤ 32) where
+  pub united : (k : ℕ) (w : List ℕ) → (k ≡ length (appended_in (padded 32 held) (length held) h)) × (w ≡ appended_in (padded 32 held) (length held) h ++ drop k (padded 32 held))
       → (k ≤ length w) × (take k w ≡ appended held h)
   united k w a =
-      (append_bound (padded 64 held) (length held) h k w a.0 a.1, take_appended (padded 64 held) (length held) h k w a.0 a.1 ∙ appended_in_work held h p q)
+      let whole = appended_in_row 32 held h p ∙ take_all 32 (appended held h) q in
+      (append_bound (padded 32 held) (length held) h k w a.0 a.1, take_appended (padded 32 held) (length held) h k w a.0 a.1 ∙ whole)
 
 -- the union a, which is the first k words of w, in canonical order in their place
 pub arranged : (w l a : List ℕ) (k : ℕ) (more : List ℕ) → k ≤ length w → take k w ≡ a → l ≡ canonical (take k w) → take k (l ++ more) ≡ canonical a

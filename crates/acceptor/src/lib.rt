@@ -95,8 +95,9 @@ fn perform(
         frame::P1A => opening::perform(false, own, s, head.ballot, out),
         frame::FAST => opening::perform(true, own, s, head.ballot, out),
         frame::PROPOSE => {
-            let all = request::lengthened(&s.held, h);
-            signing::perform(own, v, s, all.commands(), out)
+            let mut all = [0u64; words::CAPACITY];
+            let n = request::lengthen(&s.held, h, &mut all);
+            signing::perform(own, v, s, history::first(&all, n), out)
         }
         frame::P2A => signing::perform(own, v, s, h, out),
         _ => verify::perform(r, own, s, head.sender, h, out),

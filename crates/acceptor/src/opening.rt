@@ -46,11 +46,7 @@ pub(crate) fn perform(fast: bool, own: u8, s: &mut State, ballot: Ballot, out: &
         mask: s.certificate,
         ..Heading::default()
     };
-    let sent = if fast {
-        0
-    } else {
-        site::send(report, s.proven.commands(), s.held.commands(), out)
-    };
+    let sent = site::send_if(!fast, report, s.proven.commands(), s.held.commands(), out);
     s.ballot = ballot;
     s.fast = fast as u8;
     s.signed = 0;

@@ -1,7 +1,8 @@
 // PROPOSE: the requested commands are appended to what is held, and the result is signed.
-ghost use Rattle.std.specs.Prelude.{[], ◌≡◌, ◌≤◌, length};
+ghost use Rattle.std.specs.Prelude.{[], ◌≡◌, ◌≤◌, length, take};
 ghost use Rattle.words.specs.Sizes.{capacity};
-ghost use Rattle.history.specs.Words.{commands, stored};
+ghost use Rattle.history.specs.Words.{commands};
+ghost use Rattle.merge.specs.Merge.{appended};
 ghost use Rattle.refusal.specs.Rules.{answer};
 ghost use Rattle.frame.specs.Format.{frame_with};
 ghost use Rattle.acceptor.specs.Acceptor as spec;
@@ -39,15 +40,14 @@ pub(crate) fn check(s: &State, head: Heading, h: &[u64]) -> Answer
     content::appendable(words::LIMIT, held, h)
 }
 
-// What is held with those commands of h that are new, in canonical order.
-pub(crate) fn lengthened(held: &History, h: &[u64]) -> History
-    requires { (length (commands held.now) ≤ capacity) × (length h.now ≤ capacity) }
-    ensures { result ≡ stored (spec.lengthened (commands held.now) h.now) }
+// Puts what is held and those commands of h that are new, in canonical order, at the front of `all`, and answers how many they are.
+pub(crate) fn lengthen(held: &History, h: &[u64], all: &mut [u64; words::CAPACITY]) -> usize
+    requires { (length (commands held.now) ≤ capacity) × (length (appended (commands held.now) h.now) ≤ capacity) }
+    ensures { take result all.new ≡ spec.lengthened (commands held.now) h.now }
 {
-    let mut all = [0u64; frame::CAPACITY];
     let held = held.commands();
-    history::fill(&mut all, held);
-    let n = merge::append(&mut all, held.len(), h);
+    history::fill(all, held);
+    let n = merge::append(all, held.len(), h);
     history::put_in_order(&mut all[..n]);
-    History::of(&all[..n])
+    n
 }

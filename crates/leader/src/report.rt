@@ -80,10 +80,8 @@ fn conclude(r: Roster, own: u8, s: &mut State, out: &mut [u8]) -> usize
     );
     let h = proposed.commands();
     s.pending = proposal::remaining(s.pending.commands(), h);
-    if h.is_empty() {
-        return 0;
-    }
-    site::send(
+    site::send_if(
+        !h.is_empty(),
         Heading {
             kind: frame::P2A,
             sender: own,

@@ -2,7 +2,7 @@
 use mathlib.Core.Path.{◌≡◌, refl, sym, ap, ◌∙◌, subst}
 use mathlib.Core.Bool.{true, false}
 use mathlib.Core.List.{List, [], ◌∷◌, ◌++◌, append-nil}
-use Prim.Native.Nat.{ℕ, suc, ◌+◌, ◌-◌, ◌≤◌, ◌<◌}
+use Prim.Native.Nat.{ℕ, ◌+◌, ◌≤◌, ◌<◌}
 use native.Mathlib.Omega.{arith}
 use native.Mathlib.Numerals.{add-one}
 use lib.ListN.{length, take, drop, get_or, set, drop_of_length-le, length-take, length-append, length-set}
@@ -14,17 +14,9 @@ use Rattle.history.specs.WordsLaws.{length_padded, take_padded}
 use Rattle.merge.specs.Merge.{appended_in}
 use Rattle.merge.specs.Appending.{holds}
 use Rattle.merge.specs.AppendingLaws.{take_appended}
-use Rattle.proposal.specs.Proposal.{longer, longest_to, filled, filled_to, assembled, proposal, remaining}
+use Rattle.proposal.specs.Proposal.{longest_to, filled, filled_to, assembled, proposal, remaining}
 use Rattle.proposal.specs.Code.Work.{Begins}
-use Rattle.proposal.proofs.ProposalLaws.{longest_suc, filled_short, filled_cut, filled_to_cut}
-
--- ---- the longest
-
--- the longest below n, from the one below n - 1
-pub longest_next : (n : ℕ) (f : ℕ → List ℕ) → 1 ≤ n → longest_to n f ≡ longer (longest_to (n - 1) f) (f (n - 1))
-longest_next n f p =
-    let next : n ≡ suc (n - 1) = omega arith in
-    ap (λ (k : ℕ). longest_to k f) next ∙ longest_suc (n - 1) f
+use Rattle.proposal.proofs.ProposalLaws.{filled_short, filled_cut, filled_to_cut}
 
 -- ---- gathering
 

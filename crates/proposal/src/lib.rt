@@ -31,12 +31,11 @@ fn longer<'a>(g: &'a [u64], h: &'a [u64]) -> &'a [u64]
 fn longest<'a>(rows: Rows<'a>, reported: u16, n: u8) -> &'a [u64]
     ensures { result.now ≡ spec.longest_to n (spec.report rows.entry.words.now rows.entry.counts.now reported) }
 {
-    if n == 0 {
-        return &[];
+    let mut best: &'a [u64] = &[];
+    for i in 0..n {
+        best = longer(best, report(rows, reported, i));
     }
-    let last = n - 1;
-    let best = longest(rows, reported, last);
-    longer(best, report(rows, reported, last))
+    best
 }
 
 // Appends to the first `count` words of work the histories that the sites below n reported, by rising site, up to the end of work. Answers how
