@@ -8,8 +8,8 @@ ghost use Rattle.lines.specs.Lines.{longest_answer};
 use std::io::Read;
 use transcript::{Fed, Stream};
 
-// How many bytes are read at a time at most, and the room for their answers: for one to each byte.
-const CHUNK: usize = 65_536;
+// How many bytes are read at a time at most: few, since the room for their answers is for one to each byte.
+const CHUNK: usize = 8_192;
 
 const ROOM: usize = lines::LONGEST_ANSWER * CHUNK;
 

@@ -1,40 +1,47 @@
--- Bytes put into a buffer one by one: what a turn of each loop leaves to do, and what is left at its end.
-use Prim.Native.Nat.{ℕ, suc, ◌+◌, ◌≤◌, ◌<◌}
+-- Bytes put into a buffer, as many as there is room for; and a line out of bytes.
+use Prim.Native.Nat.{ℕ, suc, ◌+◌, ◌-◌, ◌≤◌, ◌<◌}
 use native.Mathlib.Nat.{add-zero}
 use native.Mathlib.Omega.{arith}
 use mathlib.Core.Path.{◌≡◌, refl, sym, ap, ◌∙◌}
 use mathlib.Core.Bool.{true, false}
-use mathlib.Core.List.{List, [], ◌∷◌}
+use mathlib.Core.List.{List, [], ◌∷◌, append_assoc}
 use mathlib.Core.Logic.{◌⊎◌, inl, inr}
 use lib.Dec.{eqb, ltb}
-use lib.ListN.{length, get_or, take, drop, drop_of_length-le}
+use lib.ListN.{length, take, drop, length-take, drop_of_length-le}
+use lib.Seq.{sets, drop-drop}
+use borrow.Rule.Slice.PartMut.{put_mid}
 use Rattle.std.specs.Prelude.{None, Some, position}
 use Rattle.std.specs.List.{position_or_len}
 use Rattle.std.proofs.Common.{take_all, length-take-le}
 use Rattle.std.proofs.Math.Seq.{take-nil}
 use Rattle.std.proofs.lemmas.Bool.Decides.{nat_tests}
+use Rattle.std.proofs.lemmas.List.Edits.{sets-eq}
 use borrow.Author.Tests.{ltb-false, lt-ltb}
 use Rattle.basics.specs.Bools.{true_or_false}
-use Rattle.basics.specs.Lists.{drop_next}
 use Rattle.frame.specs.Format.{line_feed}
 use Rattle.lines.specs.declared.Pulled.{Pulled}
-use Rattle.lines.specs.Lines.{through, ends, pushed, pushed_length, kept, kept_length, pulled}
+use Rattle.lines.specs.Lines.{through, ends, kept, kept_length, pulled}
 use Rattle.lines.proofs.Digits.{some_when, none_when}
-use Rattle.lines.specs.BufferLaws.{kept_one, length_one, kept_none, length_none, kept_append, length_append_kept}
+use Rattle.lines.specs.BufferLaws.{kept_none, length_none}
 
--- ---- text behind text, from place i of it on
+-- ---- text behind text
 
-pub put_turn : (out : List ℕ) (n : ℕ) (text : List ℕ) (i : ℕ) → i < length text
-    → let b = get_or text i 0 in
-    (kept_length (pushed out n b) (pushed_length out n) (drop (i + 1) text) ≡ kept_length out n (drop i text))
-    × (kept (pushed out n b) (pushed_length out n) (drop (i + 1) text) ≡ kept out n (drop i text))
-put_turn out n text i h =
-    let b = get_or text i 0 ∷ [] in
-    let e = sym (drop_next text i h) in
-    rw (sym (kept_one out n (get_or text i 0)), sym (length_one out n (get_or text i 0))) (length_append_kept out n b (drop (i + 1) text) ∙ ap (kept_length out n) e, kept_append out n b (drop (i + 1) text) ∙ ap (kept out n) e)
+module _ (out : List ℕ) (n : ℕ) (text : List ℕ) where
+  pub put_none : length out ≤ n → (n ≡ kept_length out n text) × (out ≡ kept out n text)
+  unfolding kept kept_length
+  put_none h = let e : length out - n ≡ 0 = omega arith in rw e (sym (add-zero n), refl)
 
-pub put_end : (out : List ℕ) (n : ℕ) (text : List ℕ) (i : ℕ) → length text ≤ i → (n ≡ kept_length out n (drop i text)) × (out ≡ kept out n (drop i text))
-put_end out n text i h = rw (drop_of_length-le text h) (sym (length_none out n), sym (kept_none out n))
+  -- fit are the bytes of the text that there is room for, and copied what stands in their place then
+  pub put_fit : (fit copied : List ℕ) → n < length out → fit ≡ take (length out - n) text → copied ≡ fit
+      → (n + length fit ≡ kept_length out n text) × (put_mid n (n + length fit - n) out copied ≡ kept out n text)
+  unfolding kept kept_length
+  put_fit fit copied h f c =
+      let short : n + length fit ≤ length out = omega (arith, ap length f, length-take (length out - n) text) in
+      let size : n + (n + length fit - n) ≡ n + length fit = omega arith in
+      let rest : drop (n + length fit - n) (drop n out) ≡ drop (n + length fit) out
+      = drop-drop (n + length fit - n) n out ∙ ap (λ (k : ℕ). drop k out) size in
+      let e : put_mid n (n + length fit - n) out copied ≡ sets out n fit = rw (c, rest) (sym (append_assoc (take n out) fit (drop (n + length fit) out)) ∙ sym (sets-eq fit out n short)) in
+      (ap (λ (s : List ℕ). n + length s) f, e ∙ ap (sets out n) f)
 
 -- ---- a line out of bytes
 

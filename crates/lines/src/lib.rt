@@ -99,10 +99,12 @@ pub fn room(out: &[u8], used: usize) -> usize
 fn put(out: &mut [u8], used: usize, text: &[u8]) -> usize
     ensures { (result ≡ spec.kept_length out.old used text.now) × (out.new ≡ spec.kept out.old used text.now) }
 {
-    let mut end = used;
-    for b in text {
-        end = push(out, end, *b);
+    if out.len() <= used {
+        return used;
     }
+    let fit = words::first(text, room(out, used));
+    let end = used + fit.len();
+    out[used..end].copy_from_slice(fit);
     end
 }
 

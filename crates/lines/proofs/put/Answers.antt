@@ -1,17 +1,15 @@
--- `lines::put` meets its contract: each turn puts one byte, and what is left to put leads to the same; at the end nothing is left.
-use Rattle.std.proofs.Common.{rules}
-use native.Mathlib.Omega.{arith}
-use Rattle.lines.proofs.Turns.{put_turn, put_end}
+-- `lines::put` meets its contract: where there is room it copies as many bytes as fit, and where there is none it changes nothing.
+use mathlib.Core.Path.{ap, ◌∙◌}
+use Prim.Native.Nat.{ℕ}
+use lib.ListN.{take}
+use Rattle.lines.proofs.Turns.{put_none, put_fit}
 use Rattle.lines.proofs.put.Goals as goal
 
-pub loop-b-preserved : goal.loop-b-preserved
-loop-b-preserved c =
-    let turn = c.loop-b in
-    let t = put_turn turn.out turn.end c.args.text.now turn.b-index (omega arith) in
-    (search rules, cc t.0, cc t.1)
+pub returns-then-out-used : goal.returns-then-out-used
+returns-then-out-used c = put_none c.args.out.now c.args.used c.args.text.now c.if-out-used.true
 
 pub returns : goal.returns
 returns c =
-    let turn = c.loop-b in
-    let t = put_end turn.out turn.end c.args.text.now turn.b-index (omega arith) in
-    (cc t.0, cc t.1)
+    put_fit c.args.out.now c.args.used c.args.text.now c.first-fit.result.now c.copy_from_slice.new.self c.if-out-used.false
+    (c.first-fit.ensures ∙ ap (λ (k : ℕ). take k c.args.text.now) c.room.ensures)
+    c.copy_from_slice.ensures.after
