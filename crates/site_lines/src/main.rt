@@ -46,15 +46,12 @@ fn put(rt: &impl Print, bytes: &[u8]) -> io::Result<()> {
 
 // Writes the answer's number and what is sent of the buffer, which ends with a line feed.
 fn say(rt: &impl Print, answer: Result<usize, Refusal>, out: &[u8]) -> io::Result<()> {
+    rt.print(refusal::number(answer.map(|_| ())))?;
     match answer {
-        Ok(0) => put(rt, b"0\n"),
+        Ok(0) | Err(_) => put(rt, b"\n"),
         Ok(sent) => {
-            put(rt, b"0 ")?;
+            put(rt, b" ")?;
             put(rt, words::first(out, sent))
-        }
-        Err(refusal) => {
-            rt.print(refusal.number())?;
-            put(rt, b"\n")
         }
     }
 }

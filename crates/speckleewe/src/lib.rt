@@ -27,12 +27,9 @@ impl From<Result<usize, Refusal>> for Reply {
     ghost from_gives = { λ outcome r. r ≡ reply outcome };
 
     fn from(outcome: Result<usize, Refusal>) -> Reply {
-        match outcome {
-            Ok(sent) => Reply { answer: 0, sent },
-            Err(refusal) => Reply {
-                answer: refusal.number(),
-                sent: 0,
-            },
+        Reply {
+            answer: refusal::number(outcome.map(|_| ())),
+            sent: outcome.unwrap_or(0),
         }
     }
 }
@@ -49,15 +46,9 @@ impl From<Result<u8, Refusal>> for LearnerReply {
     ghost from_gives = { λ outcome r. r ≡ learner_reply outcome };
 
     fn from(outcome: Result<u8, Refusal>) -> LearnerReply {
-        match outcome {
-            Ok(supporters) => LearnerReply {
-                answer: 0,
-                supporters,
-            },
-            Err(refusal) => LearnerReply {
-                answer: refusal.number(),
-                supporters: 0,
-            },
+        LearnerReply {
+            answer: refusal::number(outcome.map(|_| ())),
+            supporters: outcome.unwrap_or(0),
         }
     }
 }

@@ -48,10 +48,9 @@ fn answer(r: Roster, state: &mut State, line: &[u8], out: &mut [u8], used: usize
     ensures used { result ≡ kept_length out.old used (said (step r state.old line.now)) }
     ensures out { out.new ≡ kept out.old used (said (step r state.old line.now)) }
 {
-    match learner::step_in_place(r, state, line) {
-        Ok(supporters) => lines::put_answer(out, used, 0, supporters),
-        Err(refusal) => lines::put_answer(out, used, refusal.number(), 0),
-    }
+    let outcome = learner::step_in_place(r, state, line);
+    let number = refusal::number(outcome.map(|_| ()));
+    lines::put_answer(out, used, number, outcome.unwrap_or(0))
 }
 
 // Whether there is room for the longest answer behind the first `used` bytes.
@@ -104,9 +103,9 @@ pub fn feed(
 pub fn finish(s: Stream, line: &[u8], out: &mut [u8], used: usize) -> usize
     ensures { (result ≡ kept_length out.old used (spec.last (spec.at s line.now))) × (out.new ≡ kept out.old used (spec.last (spec.at s line.now))) }
 {
-    let mut state = s.state;
     if s.started && s.len != 0 {
-        answer(s.roster, &mut state, words::first(line, s.len), out, used)
+        let o = learner::step(s.roster, s.state, words::first(line, s.len));
+        lines::put_answer(out, used, refusal::number(o.answer), o.supporters)
     } else {
         used
     }
