@@ -369,7 +369,7 @@ def laws():
 
 def pages():
     """README.md and the pages of docs/, but for the one that tests/wrong_programs.py writes, and for those that name what is no longer there."""
-    return [ROOT / 'README.md'] + [page for page in sorted((ROOT / 'docs').glob('*.md')) if page.name not in ('WRONG-PROGRAMS.md', 'PORT.md', 'DESIGN-PASS.md')]
+    return [ROOT / 'README.md'] + [page for page in sorted((ROOT / 'docs').glob('*.md')) if page.name not in ('WRONG-PROGRAMS.md', 'PORT.md', 'DESIGN-PASS.md', 'LOOK-BACK.md')]
 
 
 def places():
