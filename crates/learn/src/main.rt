@@ -2,8 +2,9 @@
 // the answer and the supporters. When the input pauses or ends, all answers so far are written.
 #![tactic(auto)]
 
-ghost use Rattle.std.specs.Prelude.{◌*◌, ◌≤◌, length};
+ghost use Rattle.std.specs.Prelude.{◌≡◌, ◌*◌, ◌≤◌, length};
 ghost use Rattle.lines.specs.Lines.{longest_answer};
+ghost use Rattle.transcript.specs.Stream as spec;
 
 use std::io::Read;
 use transcript::{Fed, Stream};
@@ -35,7 +36,8 @@ fn write(rt: &(impl Print + Eprint), bytes: &[u8]) -> bool {
 // The stream after all bytes of a read, with their answers at the front of the output.
 fn answer(s: Stream, bytes: &[u8], line: &mut [u8], out: &mut [u8]) -> Fed
     requires { longest_answer * length bytes.now ≤ length out.old }
-    ensures { length bytes.now ≤ result.next }
+    ensures fed { spec.feed_outcome result line.new out.new ≡ spec.feed s line.old out.old 0 bytes.now 0 }
+    ensures whole { length bytes.now ≤ result.next }
 {
     transcript::feed(s, bytes, 0, line, out, 0)
 }
